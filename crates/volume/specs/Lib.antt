@@ -1,0 +1,4 @@
+pub mod Answers
+pub mod Meanings
+pub mod Layouts
+pub mod Fits
