@@ -1,0 +1,3 @@
+pub mod Overwritten
+pub mod Stores
+pub mod News
