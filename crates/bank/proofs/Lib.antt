@@ -1,0 +1,3 @@
+pub mod Overwritten
+pub mod Settled
+pub mod Written
