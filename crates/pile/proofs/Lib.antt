@@ -1,0 +1,2 @@
+mod Rising
+mod Spelling
