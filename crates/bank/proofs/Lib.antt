@@ -1,3 +1,2 @@
-pub mod Overwritten
 pub mod Settled
 pub mod Written

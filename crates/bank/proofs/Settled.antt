@@ -12,8 +12,9 @@ use Rattle.std.proofs.shelf.Tests.{cases-eq, cases-lt, cond-true, cond-false, e
 use Rattle.std.specs.Of.Vec.{vec-items}
 use Rattle.bank.specs.Banks.{allBytes}
 use Rattle.bank.specs.declared.Bank.{Bank}
-use Rattle.bank.specs.Sectors.{part, with-part, heldEnd, isHeld, settled, blockBytes, overwritten}
-use Rattle.bank.proofs.Overwritten.{length-with-part, part-in, part-out, own-part, part-within}
+use Rattle.volume.specs.Parts.{part, with-part}
+use Rattle.bank.specs.Sectors.{heldEnd, isHeld, settled, blockBytes, overwritten}
+use Rattle.volume.proofs.Overwritten.{length-with-part, part-in, part-out, own-part, part-within}
 
 length-settled : (bytes : List ℕ) (at : Option ℕ) (held : List ℕ) → length held ≡ 1024 → heldEnd at ≤ length bytes → length (settled bytes at held) ≡ length bytes
 length-settled bytes None held full inside = refl

@@ -12,9 +12,10 @@ use Rattle.std.proofs.shelf.Lists.{take-all}
 use Rattle.std.proofs.shelf.Tests.{cases-eq, cases-lt, cond-true, cond-false, eq-eqb, ne-eqb, lt-ltb, le-ltb}
 use Rattle.volume.specs.Meanings.{sound, lost, with-block, with-bottom, written, readAnswer, readBuffer, answerOf, bytesOr}
 use Rattle.volume.specs.declared.answers.ReadAnswer.the-variants as reads
-use Rattle.bank.specs.Sectors.{part, overwritten, blockCount, blockBytes, beyond, bottomOf, bankMeaning}
+use Rattle.volume.specs.Parts.{part}
+use Rattle.bank.specs.Sectors.{overwritten, blockCount, blockBytes, beyond, bottomOf, bankMeaning}
 use Rattle.bank.specs.Soundness.{block-within}
-use Rattle.bank.proofs.Overwritten.{length-with-part, part-in, part-out, drop-with-part}
+use Rattle.volume.proofs.Overwritten.{length-with-part, part-in, part-out, drop-with-part}
 
 module _ (bytes block : List ℕ) (n : ℕ) (below : n < blockCount (length bytes)) (size : length block ≡ 512) where
   fits : 512 * n + length block ≤ length bytes

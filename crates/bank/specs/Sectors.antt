@@ -1,20 +1,13 @@
 -- Plain bytes with a held sector, and what the whole of them means.
-use mathlib.Core.List.{List, _++_}
+use mathlib.Core.List.{List}
 use mathlib.Core.Bool.{Bool, true, false, cond}
 use Prim.Native.Nat.{ℕ, _+_, _*_, _/_, min}
 use lib.Dec.{ltb, eqb}
-use lib.ListN.{length, take, drop}
+use lib.ListN.{length, drop}
 use Rattle.std.specs.declared.option.Option.{Option}
 use Rattle.std.specs.declared.option.Option.the-variants.{Some, None}
+use Rattle.volume.specs.Parts.{part, with-part}
 use Rattle.volume.specs.Meanings.{Meaning, Block, sound, lost}
-
--- k bytes, from the given one on
-abbrev pub part : List ℕ → ℕ → ℕ → List ℕ
-part bytes from k = take k (drop from bytes)
-
--- the bytes with new ones in place of as many, from the given one on
-abbrev pub with-part : List ℕ → ℕ → List ℕ → List ℕ
-with-part bytes from new = take from bytes ++ (new ++ drop (from + length new) bytes)
 
 -- The held sector
 

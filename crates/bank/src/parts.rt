@@ -3,7 +3,7 @@ ghost use mathlib.Core.Path.{_≡_};
 ghost use Prim.Native.Nat.{_+_, _*_, _≤_};
 ghost use lib.ListN.{length};
 ghost use Rattle.std.specs.Of.Vec.{vec-items};
-ghost use Rattle.bank.specs.Sectors.{part, with-part};
+ghost use Rattle.volume.specs.Parts.{part, with-part};
 
 pub(crate) fn get_part(bytes: &[u8], from: usize, into: &mut [u8])
     requires { ⌜ from + length (now into) ≤ length (now bytes) ⌝ }

@@ -1,3 +1,2 @@
-pub mod Overwritten
 pub mod Stores
 pub mod News

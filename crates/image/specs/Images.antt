@@ -1,15 +1,16 @@
 -- A house image: four numbers of 4 bytes (block count, map offset, block offset, image length), a map byte for each block, and the blocks.
 use mathlib.Core.Path.{_≡_}
-use mathlib.Core.List.{List, _++_}
+use mathlib.Core.List.{List}
 use mathlib.Core.Logic.{_⊎_}
 use mathlib.Core.Bool.{Bool, true, false, cond, _&&_, _||_}
 use Prim.Native.Nat.{ℕ, _+_, _*_, _<_, _≤_}
 use lib.Dec.{ltb, leb, eqb}
-use lib.ListN.{length, getD, take, drop, set}
+use lib.ListN.{length, getD, set}
 use Rattle.std.specs.declared.option.Option.{Option}
 use Rattle.std.specs.declared.option.Option.the-variants.{Some, None}
 use Rattle.std.specs.declared.result.Result.{Result}
 use Rattle.std.specs.declared.result.Result.the-variants.{Ok, Err}
+use Rattle.volume.specs.Parts.{part, with-part}
 use Rattle.volume.specs.Meanings.{Block, sound, lost, Meaning}
 use Rattle.image.specs.declared.header.Header.{Header}
 use Rattle.image.specs.declared.fault.Fault.{Fault}
@@ -56,7 +57,7 @@ headerOf bs = soundHead (checked bs)
 
 abbrev pub blockAt : Header → List ℕ → ℕ → Block
 blockAt h bs k =
-    cond (ltb k (h .count)) (cond (eqb (getD bs (h .map + k) 0) 0) (sound (take 512 (drop (h .blocks + 512 * k) bs))) lost) lost
+    cond (ltb k (h .count)) (cond (eqb (getD bs (h .map + k) 0) 0) (sound (part bs (h .blocks + 512 * k) 512)) lost) lost
 
 -- Whether it takes writes is told by its kind: the work image does, the shelf image does not.
 abbrev pub imageMeaning : Bool → List ℕ → Meaning
@@ -75,13 +76,9 @@ mapByte h n = cond (ltb n (h .count)) (Some (h .map + n)) None
 abbrev pub blockByte : Header → ℕ → Option ℕ
 blockByte h n = cond (ltb n (h .count)) (Some (h .blocks + 512 * n)) None
 
--- bs with the 512 bytes of a block from at on
-abbrev pub overwritten : List ℕ → ℕ → List ℕ → List ℕ
-overwritten bs at block = take at bs ++ (block ++ drop (at + 512) bs)
-
 -- the image with these bytes as its block n, which is lost no more: every other byte is as it was
 abbrev pub stored : Header → List ℕ → ℕ → List ℕ → List ℕ
-stored h bs n block = overwritten (set bs (h .map + n) 0) (h .blocks + 512 * n) block
+stored h bs n block = with-part (set bs (h .map + n) 0) (h .blocks + 512 * n) block
 
 -- the bytes of an image after a write of block n
 abbrev pub imageWith : List ℕ → ℕ → List ℕ → List ℕ

@@ -4,8 +4,10 @@ ghost use mathlib.Core.Bool.{true};
 ghost use Prim.Native.Nat.{_+_, _<_, _≤_};
 ghost use lib.Dec.{eqb};
 ghost use lib.ListN.{length, getD, set};
+ghost use Rattle.std.specs.Of.Vec.{vec-items};
+ghost use Rattle.volume.specs.Parts.{with-part};
 ghost use Rattle.volume.specs.Meanings.{readAnswer, readBuffer, writeAnswer, written};
-ghost use Rattle.image.specs.Images.{headerOf, imageMeaning, imageWith, overwritten};
+ghost use Rattle.image.specs.Images.{headerOf, imageMeaning, imageWith};
 use crate::check::check;
 use crate::header::Header;
 use volume::answers::ReadAnswer;
@@ -57,13 +59,13 @@ fn mark_sound(bytes: &mut [u8], at: usize)
 
 fn overwrite(bytes: &mut [u8], at: usize, block: &[u8; 512])
     requires { ⌜ at + 512 ≤ length (now bytes) ⌝ }
-    ensures { λ _. ⌜ now (bytes .exit) ≡ overwritten (now (bytes .entry)) at (now (block .entry)) ⌝ }
+    ensures { λ _. ⌜ now (bytes .exit) ≡ with-part (now (bytes .entry)) at (now (block .entry)) ⌝ }
 {
     bytes[at..at + 512].copy_from_slice(block);
 }
 
 // Writes block n and marks it sound, in an image that takes writes.
-pub(crate) fn write_block(bytes: &mut [u8], head: Header, n: u32, block: &[u8; 512]) -> WriteAnswer
+fn write_block(bytes: &mut [u8], head: Header, n: u32, block: &[u8; 512]) -> WriteAnswer
     requires { ⌜ head ≡ headerOf (now bytes) ⌝ }
     ensures answer { λ r. ⌜ r ≡ writeAnswer (imageMeaning true (now (bytes .entry))) n ⌝ }
     ensures bytes { λ _. ⌜ now (bytes .exit) ≡ imageWith (now (bytes .entry)) n (now (block .entry)) ⌝ }
@@ -76,4 +78,20 @@ pub(crate) fn write_block(bytes: &mut [u8], head: Header, n: u32, block: &[u8; 5
     mark_sound(bytes, head.map as usize + n as usize);
     overwrite(bytes, head.blocks as usize + 512 * n as usize, block);
     WriteAnswer::Done
+}
+
+// The same, in the vector that holds the image.
+pub(crate) fn store_block(
+    bytes: &mut Vec<u8>,
+    head: Header,
+    n: u32,
+    block: &[u8; 512],
+) -> WriteAnswer
+    requires { ⌜ head ≡ headerOf (vec-items (now bytes)) ⌝ }
+    ensures answer { λ r. ⌜ r ≡ writeAnswer (imageMeaning true (vec-items (now (bytes .entry)))) n ⌝ }
+    ensures bytes { λ _. ⌜ vec-items (now (bytes .exit)) ≡ imageWith (vec-items (now (bytes .entry))) n (now (block .entry)) ⌝ }
+    ensures head { λ _. ⌜ headerOf (vec-items (now (bytes .exit))) ≡ head ⌝ }
+    ensures after { λ _. ⌜ imageMeaning true (vec-items (now (bytes .exit))) ≡ written (imageMeaning true (vec-items (now (bytes .entry)))) n (now (block .entry)) ⌝ }
+{
+    write_block(bytes.as_mut_slice(), head, n, block)
 }

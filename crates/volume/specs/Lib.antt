@@ -1,4 +1,5 @@
 pub mod Answers
+pub mod Parts
 pub mod Meanings
 pub mod Layouts
 pub mod Fits

@@ -8,7 +8,7 @@ ghost use Rattle.image.specs.Wholes.{image-sound};
 use super::WorkImage;
 use crate::raw::header_of;
 use crate::raw::read_block;
-use crate::raw::write_block;
+use crate::raw::store_block;
 use volume::Volume;
 use volume::answers::ReadAnswer;
 use volume::answers::WriteAnswer;
@@ -54,7 +54,6 @@ pub impl Volume for WorkImage as WorkImageVolume {
         ensures after { λ _. ⌜ workMeaning (now (self .exit)) ≡ written (workMeaning (now (self .entry))) n (now (bytes .entry)) ⌝ }
         ensures bytes { λ _. ⌜ vec-items (now (self .exit) .bytes) ≡ imageWith (vec-items (now (self .entry) .bytes)) n (now (bytes .entry)) ⌝ }
     {
-        let head = self.head;
-        write_block(self.bytes.as_mut_slice(), head, n, bytes)
+        store_block(&mut self.bytes, self.head, n, bytes)
     }
 }

@@ -3,7 +3,7 @@ use Prim.Native.Nat.{_*_}
 use native.Mathlib.Omega.{arith}
 use lib.ListN.{length}
 use Rattle.std.proofs.shelf.Lists.{refilled-is}
-use Rattle.bank.specs.Sectors.{with-part}
+use Rattle.volume.specs.Parts.{with-part}
 use Rattle.bank.proofs.parts.put_sector.Needs as need
 
 pub returns : need.returns

@@ -3,7 +3,8 @@ use mathlib.Core.Bool.{true}
 use Prim.Native.Nat.{_<_, _+_, _*_}
 use native.Mathlib.Omega.{arith}
 use Rattle.std.proofs.shelf.Tests.{cond-true, lt-ltb}
-use Rattle.image.specs.Images.{headerOf, imageMeaning, stored, overwritten}
+use Rattle.volume.specs.Parts.{with-part}
+use Rattle.image.specs.Images.{headerOf, imageMeaning, stored}
 use Rattle.image.specs.Heads.{own-fits, header-fits}
 use Rattle.image.proofs.Stores.{header-stored, meaning-stored}
 use Rattle.image.proofs.raw.write_block.Needs as need
@@ -23,7 +24,7 @@ returns c =
     let own : h ≡ headerOf bs = c .pre in
     let lt : n < headerOf bs .count = subst (λ x. n < x .count) own (c .if-n-head .left) in
     let below = lt-ltb n (headerOf bs .count) lt in
-    let items = c .overwrite .ensures ∙ ap (λ x. overwritten x (h .blocks + 512 * n) d) (c .mark-sound .ensures) ∙ ap (λ x. stored x bs n d) own in
+    let items = c .overwrite .ensures ∙ ap (λ x. with-part x (h .blocks + 512 * n) d) (c .mark-sound .ensures) ∙ ap (λ x. stored x bs n d) own in
     record {
       answer = sym (cond-true _ _ _ below);
       bytes = items ∙ sym (cond-true _ _ _ below);

@@ -8,7 +8,7 @@ use native.Mathlib.Omega.{arith}
 use borrow.Author.Needs.{needs}
 use lib.ListN.{length, getD, drop}
 use Rattle.std.proofs.shelf.Lists.{places, same-lists, drop-drop, take-append-drop, length-take, length-drop, getD-take, getD-drop}
-use Rattle.bank.specs.Sectors.{part, with-part}
+use Rattle.volume.specs.Parts.{part, with-part}
 
 length-part : (bytes : List ℕ) (from k : ℕ) → from + k ≤ length bytes → length (part bytes from k) ≡ k
 length-part bytes from k h = omega (arith, length-take k (drop from bytes), length-drop from bytes)
@@ -17,7 +17,7 @@ getD-part : (bytes : List ℕ) (from k m z : ℕ) → m < k → getD (part bytes
 getD-part bytes from k m z few = getD-take k (drop from bytes) m z few ∙ getD-drop from bytes m z
 
 -- two parts are the same where their bytes are
-same-parts : (xs ys : List ℕ) (i j k : ℕ) → i + k ≤ length xs → j + k ≤ length ys → ((m z : ℕ) → m < k → getD xs (i + m) z ≡ getD ys (j + m) z) → part xs i k ≡ part ys j k
+pub same-parts : (xs ys : List ℕ) (i j k : ℕ) → i + k ≤ length xs → j + k ≤ length ys → ((m z : ℕ) → m < k → getD xs (i + m) z ≡ getD ys (j + m) z) → part xs i k ≡ part ys j k
 same-parts xs ys i j k hi hj same =
     let wide = length-part xs i k hi in
     same-lists (part xs i k) (part ys j k) (wide ∙ sym (length-part ys j k hj))
@@ -30,7 +30,7 @@ module _ (bytes : List ℕ) (from : ℕ) (new : List ℕ) (fits : from + length 
   with-part-in : (m z : ℕ) → m < length new → getD (with-part bytes from new) (from + m) z ≡ getD new m z
   with-part-in m z h = search (needs, places)
 
-  with-part-out : (m z : ℕ) → (m < from) ⊎ (from + length new ≤ m) → getD (with-part bytes from new) m z ≡ getD bytes m z
+  pub with-part-out : (m z : ℕ) → (m < from) ⊎ (from + length new ≤ m) → getD (with-part bytes from new) m z ≡ getD bytes m z
   with-part-out m z side = ⊎-elim (λ h. search (needs, places)) (λ h. grind (arith, places)) side
 
   pub part-in : (i k : ℕ) → i + k ≤ length new → part (with-part bytes from new) (from + i) k ≡ part new i k
@@ -38,6 +38,14 @@ module _ (bytes : List ℕ) (from : ℕ) (new : List ℕ) (fits : from + length 
       let long = length-with-part in
       same-parts (with-part bytes from new) new (from + i) i k (omega arith) h
       (λ m z few. rw add-assoc (with-part-in (i + m) z (omega arith)))
+
+  pub part-new : part (with-part bytes from new) from (length new) ≡ new
+  part-new =
+      let long = length-with-part in
+      same-lists _ _ (length-part (with-part bytes from new) from (length new) (omega arith))
+      (λ m z h.
+      let few : m < length new = omega (arith, length-part (with-part bytes from new) from (length new) (omega arith)) in
+      getD-part (with-part bytes from new) from (length new) m z few ∙ with-part-in m z few)
 
   pub part-out : (i k : ℕ) → i + k ≤ length bytes → (i + k ≤ from) ⊎ (from + length new ≤ i) → part (with-part bytes from new) i k ≡ part bytes i k
   part-out i k h side =
