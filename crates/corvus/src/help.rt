@@ -6,7 +6,7 @@ use std::alloc::AllocError;
 use std::alloc::Global;
 
 const TEXT: &str = "\
-corvus: where the blocks of a room's drive lie, and what a house image holds
+corvus: where the blocks of a room's drive lie, what a house image holds, what a packet says
 
 On a room table:
 
@@ -45,6 +45,20 @@ On an image:
       512 bytes of standard input as the block; a lost block is sound from then on.
         corvus put spare.img 5 < block.bin
 
+On packets:
+
+  corvus packet HEX...
+      What a packet says: the command, its fields, its reply; or the question that it fails.
+        corvus packet 02 01 10 00
+
+  corvus build [--room N] COMMAND FIELDS...
+      The packet of a command, in hexadecimal, built in a buffer of N bytes (517).
+      read SIZE DRIVE SECTOR and write SIZE DRIVE SECTOR HEX... (SIZE 128, 256, 256b, 512),
+      lock NAME, unlock NAME, initialize-semaphores, status SELECTOR,
+      initialize-area FIRST LENGTH, open-write NAME, open-read NAME,
+      pipe-read NUMBER LENGTH, pipe-write NUMBER LENGTH HEX..., close NUMBER
+        corvus build read 256 1 16
+
   corvus help
       This page.
 
@@ -77,6 +91,7 @@ fn usage(command: &str) -> &'static str {
         "new" => "new IMAGE BLOCKS",
         "get" => "get IMAGE BLOCK",
         "put" => "put IMAGE BLOCK",
+        "build" => "build [--room N] COMMAND FIELDS...",
         _ => "help",
     }
 }

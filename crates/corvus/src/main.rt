@@ -1,17 +1,20 @@
-// corvus: rooms, their places on drives, and house images, from the command line.
+// corvus: rooms, their places on drives, house images and packets, from the command line.
 use stop::Stop;
 use stop::StopDisplay;
 use stop::StopFromAlloc;
 use stop::StopFromIo;
 use stop::StopFromRefused;
 
+mod builds;
 mod columns;
 mod drive;
 mod files;
 mod help;
+mod hex;
 mod images;
 mod map;
 mod opened;
+mod packets;
 mod places;
 mod questions;
 mod rooms;
@@ -37,6 +40,8 @@ fn arity(command: &str) -> Option<(usize, usize)> {
         "new" => Some((2, 2)),
         "get" => Some((2, 2)),
         "put" => Some((2, 2)),
+        "packet" => Some((0, usize::MAX)),
+        "build" => Some((1, usize::MAX)),
         _ => None,
     }
 }
@@ -54,6 +59,8 @@ fn obey(rt: &LibcRuntime, command: &str, words: &[String]) -> Result<(), Stop> {
         "new" => shelf::new(rt, first, second),
         "get" => shelf::get(rt, first, second),
         "put" => shelf::put(rt, first, second),
+        "packet" => packets::explain(rt, words),
+        "build" => builds::build_words(rt, words),
         _ => help::print(rt),
     }
 }

@@ -18,6 +18,15 @@ pub(crate) fn number(text: &str) -> Option<u32> {
     if text.is_empty() { None } else { Some(value) }
 }
 
+// The words behind the first n.
+pub(crate) fn behind(words: &[String], n: usize) -> &[String] {
+    if n < words.len() {
+        &words[n..]
+    } else {
+        &words[0..0]
+    }
+}
+
 // The number that a word of the command line says.
 pub(crate) fn number_word(heap: Global, what: &str, word: &str) -> Result<u32, Stop> {
     match number(word) {
