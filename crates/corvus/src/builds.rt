@@ -58,31 +58,27 @@ fn name_word(heap: Global, word: &str) -> Result<u64, Stop> {
     Ok(u64::from_be_bytes(name))
 }
 
-// How many words a command's fields are, at least and at most, and where its data begins.
+// How many fields a command has, and whether words of data, in hexadecimal, follow them.
 #[derive(Drop)]
 struct Form {
     usage: &'static str,
-    least: usize,
-    most: usize,
-    data: usize,
+    fields: usize,
+    data: bool,
 }
 
 fn with_fields(usage: &'static str, fields: usize) -> Form {
     Form {
         usage,
-        least: fields,
-        most: fields,
-        data: fields,
+        fields,
+        data: false,
     }
 }
 
-// A form whose data, in hexadecimal, stands behind so many fields.
 fn with_data(usage: &'static str, fields: usize) -> Form {
     Form {
         usage,
-        least: fields,
-        most: usize::MAX,
-        data: fields,
+        fields,
+        data: true,
     }
 }
 
@@ -251,7 +247,7 @@ fn built(heap: Global, room: usize, words: &[String]) -> Result<String, Stop> {
         );
     };
     let given = words.len().saturating_sub(1);
-    if given < form.least || given > form.most {
+    if given < form.fields || (given > form.fields && !form.data) {
         let usage = form.usage;
         return Err(
             no_build(
@@ -260,7 +256,7 @@ fn built(heap: Global, room: usize, words: &[String]) -> Result<String, Stop> {
             )?,
         );
     }
-    let data = bytes_in(heap, behind(words, form.data.saturating_add(1)))?;
+    let data = bytes_in(heap, behind(words, form.fields.saturating_add(1)))?;
     built_with(heap, room, words, data.as_slice())
 }
 
