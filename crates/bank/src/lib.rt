@@ -1,3 +1,4 @@
+#![tactic(auto)]
 // A Bank: plain bytes in sectors of 1,024, two blocks to a sector, written through one held sector.
 ghost use Rattle.std.specs.Prelude.{◌≡◌, ◌≤◌, length};
 ghost use Rattle.bank.specs.Sectors.{held_end};

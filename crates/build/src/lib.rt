@@ -1,3 +1,4 @@
+#![tactic(auto)]
 // The packet of a command, at the front of a buffer.
 ghost use Rattle.std.specs.Prelude.{◌≡◌, ℕ, ◌≤◌, ◌++◌, take, Ok};
 ghost use Rattle.packet.specs.Commands.{read, write, status, initialize_area, pipe_read, pipe_write};

@@ -1,3 +1,4 @@
+#![tactic(auto)]
 // The controller: every command by packet and by call, over any volume.
 pub mod answers;
 mod calls;

@@ -1,3 +1,4 @@
+#![tactic(auto)]
 // corvus: rooms, their places on drives, house images and packets, from the command line.
 use stop::Stop;
 

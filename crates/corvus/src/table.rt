@@ -2,9 +2,9 @@
 use crate::drive::{Drive, drive_of};
 use crate::files::bytes_of;
 use crate::stop::{Stop, settled};
-use csv::fault::Fault;
-use csv::reader::Reader;
-use csv::reader::records::Record;
+use sheet::fault::Fault;
+use sheet::reader::Reader;
+use sheet::reader::records::Record;
 use std::alloc::{AllocError, Global};
 
 pub(crate) const HEADER: &str = "room,image,tracks,sectors,firmware,spares,spared,offset,length";

@@ -1,3 +1,4 @@
+#![tactic(auto)]
 // The controller on paper: what its tables hold, what it answers to every request and what it then does, and the laws that
 // hold after every list of requests.
 ghost use Rattle.model.specs.Laws.{LawsHold, EveryList, PartsKept};

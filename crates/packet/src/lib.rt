@@ -1,3 +1,4 @@
+#![tactic(auto)]
 // Packets: the commands as a type, and what each packet says.
 pub mod command;
 pub mod decode;

@@ -1,3 +1,4 @@
+#![tactic(auto)]
 // A pile of placements, as many as are put on it at run time, and the runs of places that a placement takes.
 ghost use Rattle.std.specs.Prelude.{◌≡◌, MatchResult};
 ghost use Rattle.volume.specs.Layouts.{layered};

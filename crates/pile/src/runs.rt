@@ -29,7 +29,7 @@ impl Run {
 
 // The places of blocks 0, 1, 2 and so on, joined where they follow one another.
 pub fn runs_of<P: Placement>(heap: Global, placement: &P) -> Result<Vec<Run>, AllocError>
-    ensures places { IfOk result (λ v. spelled v.items ≡ map (layout placement.now).place (range_with_len 0 (layout placement.now).count)) }
+    ensures places { IfOk result (λ v. spelled v.items ≡ map (P.layout placement.now).place (range_with_len 0 (P.layout placement.now).count)) }
     ensures longest { IfOk result (λ v. Longest v.items) }
 {
     let mut runs = Vec::new(heap);

@@ -1,3 +1,4 @@
+#![tactic(auto)]
 // The placements of a room's drive: spared tracks, and a window.
 pub mod refusal;
 pub mod shape;

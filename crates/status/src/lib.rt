@@ -1,3 +1,4 @@
+#![tactic(auto)]
 // The controller's tables as Status tells them, as bytes at the front of a buffer.
 ghost use Rattle.std.specs.Prelude.{◌≡◌, ◌+◌, ◌*◌, ◌≤◌, ◌&&◌, length, replicate, nat_le};
 ghost use Rattle.packet.specs.Packets.{name_bytes};

@@ -1,3 +1,4 @@
+#![tactic(auto)]
 // The volumes that a program chooses among at run time: a store, with a pile on it or none, and a note of what was written.
 ghost use Rattle.std.specs.Prelude.{◌≡◌};
 ghost use Rattle.volume.specs.Meanings.{write_answer, written};

@@ -1,3 +1,4 @@
+#![tactic(auto)]
 // The controller's tables: the semaphore names, and the pipes.
 pub mod answers;
 pub mod area;

@@ -1,3 +1,4 @@
+#![tactic(auto)]
 // What a volume and a placement promise. Everything above is proved against these two traits alone.
 ghost use Rattle.std.specs.Prelude.{◌≡◌};
 ghost use Rattle.volume.specs.Meanings.{Meaning, Sound, read_answer, read_buffer, write_answer, written};

@@ -1,3 +1,4 @@
+#![tactic(auto)]
 // Worked numbers, each a row of one table. The places are those of a drive of 120 tracks of 20 sectors, 4 of them firmware
 // and 16 kept back, with tracks 34 and 67 spared.
 ghost use Rattle.std.specs.Prelude.{◌≡◌};

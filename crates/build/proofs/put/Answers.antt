@@ -15,5 +15,5 @@ returns-then-first-room c =
 pub returns : goal.returns
 returns c = record {
   answer = room c.args.head.now c.args.tail.now c.args.buffer.now (omega arith);
-  after = written c.args.head.now c.args.tail.now c.args.buffer.now _ _ c.copy-from-slice.ensures.after c.copy-from-slice-2.ensures.after (omega arith);
+  after = written c.args.head.now c.args.tail.now c.args.buffer.now _ _ c.copy_from_slice.ensures.after c.copy_from_slice-2.ensures.after (omega arith);
 }

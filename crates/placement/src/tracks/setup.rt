@@ -31,7 +31,7 @@ impl SparedTracks {
     // Sets the placement up anew, or refuses and leaves it as it was.
     pub fn set(&mut self, shape: Shape, spared: Vec<u32>) -> Result<(), Refusal>
         ensures answer { result ≡ track_check shape spared.items }
-        ensures after { set_up self.new ≡ (if is_ok result then shape, spared.items else set_up self.old) }
+        ensures after { set_up self.new ≡ (if is_ok result then (shape, spared.items) else set_up self.old) }
         ensures layout { spared_layout self.new ≡ (if is_ok result then track_layout shape spared.items else spared_layout self.old) }
     {
         check_tracks(shape, spared.as_slice())?;

@@ -9,6 +9,6 @@ returns c =
     let a = c.args.area in
     let high : c.from-low.result + c.from.result ≡ area_end a = omega (arith, c.from-low.ensures, c.from.ensures) in
     entries-put a c.args.pipes.now c.args.out.now _ _ _ _ _
-    (c.end-pointer.ensures ∙ ap (end_pointer 0) c.from-low.ensures)
-    (c.end-pointer-2.ensures ∙ ap (end_pointer 63) high)
-    c.requires c.put-row.ensures c.put-rows.ensures c.put-row-2.ensures
+    (c.end_pointer.ensures ∙ ap (end_pointer 0) c.from-low.ensures)
+    (c.end_pointer-2.ensures ∙ ap (end_pointer 63) high)
+    c.requires c.put_row.ensures c.put_rows.ensures c.put_row-2.ensures

@@ -10,7 +10,7 @@ returns c =
     let bytes = vec_items c.hold.new.self.bytes in
     let n = c.args.n in
     let block = c.args.block.now in
-    let laid : all_bytes c.lay-half.new.self ≡ settled bytes b.at (overwritten b.held (n % 2) block) = cc in
+    let laid : all_bytes c.lay_half.new.self ≡ settled bytes b.at (overwritten b.held (n % 2) block) = cc in
     laid
     ∙ block_laid bytes b.at b.held block n c.hold.ensures.at b.full b.inside c.told-block
     ∙ ap (λ x. overwritten x n block) c.hold.ensures.all

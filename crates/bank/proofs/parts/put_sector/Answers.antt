@@ -6,9 +6,9 @@ use Rattle.bank.proofs.parts.put_sector.Goals as goal
 pub returns : goal.returns
 returns c =
     let v = c.args.bytes.now in
-    let long : length c.put-part.new.bytes ≡ c.args.bytes.now.len = omega (arith, c.put-part.auto.bytes, c.as-mut-slice.ensures.len) in
-    let items = with_items_is v c.put-part.new.bytes long in
+    let long : length c.put_part.new.bytes ≡ c.args.bytes.now.len = omega (arith, c.put_part.auto.bytes, c.as_mut_slice.ensures.len) in
+    let items = with_items_is v c.put_part.new.bytes long in
     record {
-      after = items ∙ c.put-part.ensures ∙ ap (λ x. with_part x (1024 * c.args.sector) c.args.new.now) c.as-mut-slice.ensures.value;
+      after = items ∙ c.put_part.ensures ∙ ap (λ x. with_part x (1024 * c.args.sector) c.args.new.now) c.as_mut_slice.ensures.value;
       len = ap length items ∙ long ∙ v.ok.0;
     }

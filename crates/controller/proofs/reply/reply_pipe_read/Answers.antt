@@ -4,10 +4,10 @@ use Rattle.model.specs.Answers.{Answer, reply_of}
 use Rattle.controller.proofs.Replies.{read_refused}
 use Rattle.controller.proofs.reply.reply_pipe_read.Goals as goal
 
-pub returns-else-by-volume : goal.returns-else-by-volume
-returns-else-by-volume c =
-    let is = read_refused c.args.answered c.args.block.now _ (sym c.is_done.ensures ∙ c.if-is-done.false) (sym c.by_volume.ensures ∙ c.if-by-volume.false) c.number-else-by-volume.ensures in
-    let e = c.reply-no-block.ensures in
+pub returns-else-by_volume : goal.returns-else-by_volume
+returns-else-by_volume c =
+    let is = read_refused c.args.answered c.args.block.now _ (sym c.is_done.ensures ∙ c.if-is_done.false) (sym c.by_volume.ensures ∙ c.if-by_volume.false) c.number-else-by_volume.ensures in
+    let e = c.reply_no_block.ensures in
     record {
       value = e.value ∙ ap (λ (a : Answer). length (reply_of a)) is;
       after = e.after ∙ ap (λ (a : Answer). front (reply_of a) c.args.reply.now) is;

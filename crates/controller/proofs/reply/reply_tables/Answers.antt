@@ -11,8 +11,8 @@ use Rattle.controller.proofs.reply.reply_tables.Goals as goal
 long : (b : List ℕ) → 1025 ≤ length b → 1024 ≤ length (take (length b - 1) (drop 1 b))
 long b h = let e = ap (λ (l : List ℕ). length l) (take_rest b 1) in omega (arith, length-drop 1 b)
 
-pub overflow-add-result : goal.overflow-add-result
-overflow-add-result c =
+pub overflow_add-result : goal.overflow_add-result
+overflow_add-result c =
     let ok = askable_here (length c.args.names.now) (length c.args.pipes.now) c.args.selector _ c.requires.known (long c.args.reply.now c.requires.room) c.requires.full c.requires.few in
     let small = few-put c.in-Some.n c.args.selector _ ok c.in-Some.ensures.number in
     search rules
@@ -25,7 +25,7 @@ returns-in-Some c =
     let room : 1 ≤ length b = omega (arith, c.requires.room) in
     record {
       value = one_byte_more c.in-Some.n t _ ok c.in-Some.ensures.answer;
-      after = behind_first b t c.put-tables.new.out room (c.put-tables.ensures.after ∙ cond-true _ _ _ ok ∙ ap (front t) (take_rest b 1));
+      after = behind_first b t c.put_tables.new.out room (c.put_tables.ensures.after ∙ cond-true _ _ _ ok ∙ ap (front t) (take_rest b 1));
     }
 
 pub returns-in-None : goal.returns-in-None

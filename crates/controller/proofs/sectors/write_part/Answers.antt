@@ -16,6 +16,6 @@ returns-in-Done g c =
     let f = c.args.first in
     let b = c.read.new.buffer in
     let is = read_done m n _ b c.in-Done.ensures.answer c.read.ensures.buffer in
-    let new : put_mid f (f + length d - f) b c.copy-from-slice.new.self ≡ with_part b f d = search (rules, overwrites) in
+    let new : put_mid f (f + length d - f) b c.copy_from_slice.new.self ≡ with_part b f d = search (rules, overwrites) in
     ap (λ (v : Meaning). (true, v)) (c.write.ensures.after ∙ written-stored m n _ c.requires.below c.requires.writable ∙ ap (stored m n) new) ∙
     sym (ap (λ (x : Block). part_written m n f d x) is)

@@ -6,11 +6,11 @@ use Rattle.image.specs.Heads.{own_fits, header_fits}
 use Rattle.image.proofs.Stores.{header_stored, meaning_stored}
 use Rattle.image.proofs.raw.write_block.Goals as goal
 
-pub mark-sound-requires : goal.mark-sound-requires
-mark-sound-requires c = let f = own_fits _ _ c.requires in omega arith
+pub mark_sound-requires : goal.mark_sound-requires
+mark_sound-requires c = let f = own_fits _ _ c.requires in omega arith
 
 pub overwrite-requires : goal.overwrite-requires
-overwrite-requires c = let f = own_fits _ _ c.requires in omega (arith, c.mark-sound.auto.bytes)
+overwrite-requires c = let f = own_fits _ _ c.requires in omega (arith, c.mark_sound.auto.bytes)
 
 pub returns : goal.returns
 returns c =
@@ -21,7 +21,7 @@ returns c =
     let own : h ≡ header_of bs = c.requires in
     let lt : n < (header_of bs).count = subst (λ x. n < x.count) own c.if-n-head.false in
     let below = lt-ltb n (header_of bs).count lt in
-    let items = c.overwrite.ensures ∙ ap (λ x. with_part x (h.blocks + 512 * n) d) c.mark-sound.ensures ∙ ap (λ x. stored x bs n d) own in
+    let items = c.overwrite.ensures ∙ ap (λ x. with_part x (h.blocks + 512 * n) d) c.mark_sound.ensures ∙ ap (λ x. stored x bs n d) own in
     record {
       answer = sym (cond-true _ _ _ below);
       bytes = items ∙ sym (cond-true _ _ _ below);

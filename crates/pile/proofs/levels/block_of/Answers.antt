@@ -8,10 +8,10 @@ loop-upper-preserved g c =
     let layout = g.P.Placement.layout in
     let i = c.loop-upper.upper-index in
     let u = c.upper-item.result in (
-      count_more layout c.args.bottom.now c.args.above.now i c.loop-upper.count c.count-on-count.result u
-          c.loop-upper-test.true c.upper-item.is c.loop-upper.invariant.0 c.count-on-count.ensures,
-      block_more layout c.args.bottom.now c.args.above.now g.P.Placement.lawful i c.loop-upper.count c.args.place c.loop-upper.block c.block-on-block.result u
-          c.loop-upper-test.true c.upper-item.is c.loop-upper.invariant.0 c.loop-upper.invariant.1 c.block-on-block.ensures,
+      count_more layout c.args.bottom.now c.args.above.now i c.loop-upper.count c.count_on-count.result u
+          c.loop-upper-test.true c.upper-item.is c.loop-upper.invariant.0 c.count_on-count.ensures,
+      block_more layout c.args.bottom.now c.args.above.now g.P.Placement.lawful i c.loop-upper.count c.args.place c.loop-upper.block c.block_on-block.result u
+          c.loop-upper-test.true c.upper-item.is c.loop-upper.invariant.0 c.loop-upper.invariant.1 c.block_on-block.ensures,
     )
 
 pub returns : goal.returns

@@ -5,8 +5,8 @@ use Rattle.pile.proofs.levels.count_of.Goals as goal
 pub loop-upper-preserved : goal.loop-upper-preserved
 loop-upper-preserved g c =
     count_more g.P.Placement.layout c.args.bottom.now c.args.above.now
-    c.loop-upper.upper-index c.loop-upper.count c.count-on-count.result c.upper-item.result
-    c.loop-upper-test.true c.upper-item.is c.loop-upper.invariant c.count-on-count.ensures
+    c.loop-upper.upper-index c.loop-upper.count c.count_on-count.result c.upper-item.result
+    c.loop-upper-test.true c.upper-item.is c.loop-upper.invariant c.count_on-count.ensures
 
 pub returns : goal.returns
 returns g c =

@@ -12,7 +12,7 @@ returns-in-Some c =
 
 pub loop-other-preserved : goal.loop-other-preserved
 loop-other-preserved c =
-    free_more (InRun c.args.run) c.args.others.now c.loop-other.other-index record { first = 0; count = 0 } c.loop-other-test.true c.loop-other.invariant c.in-default.ensures
+    free_more (InRun c.args.run) c.args.others.now c.loop-other.other-index record { first = 0; count = 0 } c.loop-other-test.true c.loop-other.invariant c.in_default.ensures
 
 pub returns : goal.returns
 returns c = free_all (InRun c.args.run) c.args.others.now c.loop-other.other-index c.loop-other-test.false c.loop-other.invariant

@@ -8,7 +8,7 @@ loop-row-init g c = (omega arith, part_none c.args.out.now c.args.from)
 
 pub loop-row-preserved : goal.loop-row-preserved
 loop-row-preserved g c =
-    let more = row_more g.R.Row.bytes g.met.R.Row.eight _ _ _ _ _ _ _ _ _ c.requires c.loop-row-test.true c.loop-row.invariant.0 c.loop-row.invariant.1 c.row-item.is c.row.ensures c.put-row.ensures in
+    let more = row_more g.R.Row.bytes g.met.R.Row.eight _ _ _ _ _ _ _ _ _ c.requires c.loop-row-test.true c.loop-row.invariant.0 c.loop-row.invariant.1 c.row-item.is c.row.ensures c.put_row.ensures in
     (omega arith, more)
 
 pub returns : goal.returns

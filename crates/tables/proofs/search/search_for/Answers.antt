@@ -11,7 +11,7 @@ returns-in-At g c =
     let xs = c.args.entries.now in
     let e =
     sought_hit is free xs c.loop-i.i c.index-entries-i.result c.loop-i-test.true c.index-entries-i.is
-    c.loop-i.found c.seen-found.result c.is-it.result c.is-free.result c.loop-i.invariant c.is-it.ensures c.is-free.ensures c.seen-found.ensures
+    c.loop-i.found c.seen-found.result c.is_it.result c.is_free.result c.loop-i.invariant c.is_it.ensures c.is_free.ensures c.seen-found.ensures
     _ c.in-At.is in
     record { found = e; inside = searched-within is free xs c.seen-found.result e }
 
@@ -19,8 +19,8 @@ pub loop-i-preserved : goal.loop-i-preserved
 loop-i-preserved g c =
     sought_more (g.W.Wanted.is c.args.wanted.now) (g.W.Wanted.free c.args.wanted.now) c.args.entries.now
     c.loop-i.i c.index-entries-i.result c.loop-i-test.true c.index-entries-i.is
-    c.loop-i.found c.seen-found.result c.is-it.result c.is-free.result c.loop-i.invariant c.is-it.ensures c.is-free.ensures c.seen-found.ensures
-    c.in-default.not-At
+    c.loop-i.found c.seen-found.result c.is_it.result c.is_free.result c.loop-i.invariant c.is_it.ensures c.is_free.ensures c.seen-found.ensures
+    c.in_default.not-At
 
 pub returns : goal.returns
 returns g c =

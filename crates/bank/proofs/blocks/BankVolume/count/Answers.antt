@@ -6,4 +6,4 @@ use Rattle.bank.proofs.blocks.BankVolume.count.Goals as goal
 pub returns : goal.returns
 returns c =
     let b = c.args.self.now in
-    c.block-count.ensures ∙ ap block_count (c.len.ensures ∙ b.bytes.ok.0 ∙ sym (length_all b))
+    c.block_count.ensures ∙ ap block_count (c.len.ensures ∙ b.bytes.ok.0 ∙ sym (length_all b))

@@ -5,8 +5,8 @@ use Rattle.bank.proofs.Settled.{length_all, block_settled}
 use Rattle.bank.proofs.Written.{read_answer_lem, read_buffer_lem}
 use Rattle.bank.proofs.blocks.BankVolume.read.Goals as goal
 
-pub copy-block-requires : goal.copy-block-requires
-copy-block-requires c = omega (arith, length_all c.args.self.now)
+pub copy_block-requires : goal.copy_block-requires
+copy_block-requires c = omega (arith, length_all c.args.self.now)
 
 pub returns : goal.returns
 returns c =
@@ -17,7 +17,7 @@ returns c =
     record {
       answer = sym (read_answer_lem (all_bytes b) n below);
       buffer =
-          c.copy-block.ensures
+          c.copy_block.ensures
           ∙ sym (block_settled (vec_items b.bytes) b.at b.held n b.full b.inside within)
           ∙ sym (read_buffer_lem (all_bytes b) c.args.buffer.now n below);
     }

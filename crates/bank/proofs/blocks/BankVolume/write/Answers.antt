@@ -6,8 +6,8 @@ use Rattle.bank.proofs.Settled.{length_all}
 use Rattle.bank.proofs.Written.{block_written, beyond-written}
 use Rattle.bank.proofs.blocks.BankVolume.write.Goals as goal
 
-pub lay-block-requires : goal.lay-block-requires
-lay-block-requires c = omega (arith, length_all c.args.self.now)
+pub lay_block-requires : goal.lay_block-requires
+lay_block-requires c = omega (arith, length_all c.args.self.now)
 
 pub returns : goal.returns
 returns c =
@@ -18,7 +18,7 @@ returns c =
     let is = lt-ltb n (block_count (length all)) below in
     record {
       answer = sym (cond-true _ _ _ is);
-      all = c.lay-block.ensures ∙ sym (cond-true _ _ _ is);
-      after = ap bank_meaning c.lay-block.ensures ∙ block_written all block n below c.told-bytes;
-      past = ap beyond c.lay-block.ensures ∙ beyond-written all block n below c.told-bytes;
+      all = c.lay_block.ensures ∙ sym (cond-true _ _ _ is);
+      after = ap bank_meaning c.lay_block.ensures ∙ block_written all block n below c.told-bytes;
+      past = ap beyond c.lay_block.ensures ∙ beyond-written all block n below c.told-bytes;
     }

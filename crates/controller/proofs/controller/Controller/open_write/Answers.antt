@@ -2,4 +2,4 @@ use Rattle.model.proofs.Whole.{does}
 use Rattle.controller.proofs.controller.Controller.open_write.Goals as goal
 
 pub returns : goal.returns
-returns g c = does _ _ _ _ c.step-open-write.ensures
+returns g c = does _ _ _ _ c.step_open_write.ensures

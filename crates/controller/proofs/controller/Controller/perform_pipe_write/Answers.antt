@@ -11,4 +11,4 @@ returns-in-Some g c =
     let w = world_of g.V.Volume.meaning c.args.self.now in
     let same : c.in-Some.block.now ≡ c.args.bytes.now = c.in-Some.ensures.cases.same ∙ take_all 512 c.args.bytes.now (omega (arith, c.requires.whole)) in
     performed _ _ _ _ c.args.reply.now _
-    (ap (λ (b : List ℕ). obey w (pipe_write c.args.number c.args.length b)) (sym same) ∙ c.obey-pipe-write.ensures) c.reply-piped.ensures.value c.reply-piped.ensures.after
+    (ap (λ (b : List ℕ). obey w (pipe_write c.args.number c.args.length b)) (sym same) ∙ c.obey_pipe_write.ensures) c.reply_piped.ensures.value c.reply_piped.ensures.after

@@ -4,4 +4,4 @@ use Rattle.model.proofs.Whole.{does}
 use Rattle.controller.proofs.ends.WritingEnd.write.Goals as goal
 
 pub returns : goal.returns
-returns g c = does _ _ _ _ (cond-true _ _ _ (eq-eqb _ _ c.told-block) ∙ c.obey-pipe-write.ensures)
+returns g c = does _ _ _ _ (cond-true _ _ _ (eq-eqb _ _ c.told-block) ∙ c.obey_pipe_write.ensures)

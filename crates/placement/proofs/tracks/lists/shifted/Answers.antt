@@ -9,8 +9,8 @@ loop-s-preserved c =
     let i = c.loop-s.s-index in
     let s = get_or xs i 0 in
     let at = c.args.track + c.loop-s.passed in
-    let moved : c.args.track + c.passed-with-passed.result ≡ step s at = omega (arith, c.passed-with-passed.ensures) in
-    let near : c.passed-with-passed.result ≤ i + 1 = ⊎_elim (λ q. omega arith) (λ q. omega arith) (step_cases s at) in
+    let moved : c.args.track + c.passed_with-passed.result ≡ step s at = omega (arith, c.passed_with-passed.ensures) in
+    let near : c.passed_with-passed.result ≤ i + 1 = ⊎_elim (λ q. omega arith) (λ q. omega arith) (step_cases s at) in
     (near, ap (λ y. shift y (drop (i + 1) xs)) moved ∙ sym (at_drop_more (shift at) xs i 0 c.loop-s-test.true) ∙ c.loop-s.invariant.1)
 
 pub returns : goal.returns

@@ -8,8 +8,8 @@ loop-i-init c = closed_none c.args.name c.pipes-pipes.result.now
 
 pub loop-i-preserved : goal.loop-i-preserved
 loop-i-preserved c =
-    closed_more c.args.name c.pipes-pipes.result.now _ c.loop-i.i c.loop-i.best c.closed-or-best.result
-    c.loop-i-test.true c.loop-i.auto.i c.loop-i.invariant c.closed-or-best.ensures
+    closed_more c.args.name c.pipes-pipes.result.now _ c.loop-i.i c.loop-i.best c.closed_or-best.result
+    c.loop-i-test.true c.loop-i.auto.i c.loop-i.invariant c.closed_or-best.ensures
 
 pub returns : goal.returns
 returns c =

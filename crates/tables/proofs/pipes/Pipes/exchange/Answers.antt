@@ -7,7 +7,7 @@ returns-in-Some c =
     let t = c.args.self.now in
     exchanged_some c.args.number t.used t.entries c.pipes.result.now (omega arith) c.pipes.ensures c.args.pipe c.in-Some.i c.in-Some.ensures.found
 
-pub returns-in-default : goal.returns-in-default
-returns-in-default c =
+pub returns-in_default : goal.returns-in_default
+returns-in_default c =
     let t = c.args.self.now in
-    exchanged_none c.args.number t.used t.entries c.pipes.result.now (omega arith) c.pipes.ensures (c.args.pipe ∷ []) c.in-default.ensures.found
+    exchanged_none c.args.number t.used t.entries c.pipes.result.now (omega arith) c.pipes.ensures (c.args.pipe ∷ []) c.in_default.ensures.found

@@ -3,4 +3,4 @@ use Rattle.tables.proofs.Numbers.{any_some}
 use Rattle.tables.proofs.pipes.Pipes.has_name.Goals as goal
 
 pub returns : goal.returns
-returns c = any_some (named c.args.name) c.pipes.result.now _ c.place-of.result c.is-some.result c.is-some.ensures c.place-of.ensures.found c.pipes.ensures
+returns c = any_some (named c.args.name) c.pipes.result.now _ c.place_of.result c.is_some.result c.is_some.ensures c.place_of.ensures.found c.pipes.ensures

@@ -11,5 +11,5 @@ returns c =
     let room = has_room t.used t.entries (omega arith) (omega arith) in
     record {
       room = sym room;
-      after = c.put-in.ensures ∙ ap (λ j. inserted j p (take t.used t.entries)) c.min.ensures ∙ inserted_least t.used t.entries (omega arith) c.args.below p ∙ sym (cond-true _ _ _ room);
+      after = c.put_in.ensures ∙ ap (λ j. inserted j p (take t.used t.entries)) c.min.ensures ∙ inserted_least t.used t.entries (omega arith) c.args.below p ∙ sym (cond-true _ _ _ room);
     }

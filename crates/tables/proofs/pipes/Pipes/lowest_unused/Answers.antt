@@ -10,16 +10,16 @@ returns-then-self-ge62 c = let t = c.args.self.now in sym (cond-false _ _ _ (no_
 pub loop-number-init : goal.loop-number-init
 loop-number-init c = refl
 
-pub returns-then-is-none : goal.returns-then-is-none
-returns-then-is-none c =
+pub returns-then-is_none : goal.returns-then-is_none
+returns-then-is_none c =
     let t = c.args.self.now in
-    let absent = ap is_some (sym c.find.ensures) ∙ c.if-is-none.ensures in
+    let absent = ap is_some (sym c.find.ensures) ∙ c.if-is_none.ensures in
     sym (unused_here (pipes_of t) c.loop-number.number c.loop-number-test.true absent) ∙ c.loop-number.invariant
     ∙ sym (cond-true _ _ _ (has_room t.used t.entries (omega arith) (omega arith)))
 
 pub loop-number-preserved : goal.loop-number-preserved
 loop-number-preserved c =
-    let present = ap is_some (sym c.find.ensures) ∙ c.if-is-none.ensures in
+    let present = ap is_some (sym c.find.ensures) ∙ c.if-is_none.ensures in
     unused_more (pipes_of c.args.self.now) c.loop-number.number c.loop-number-test.true present ∙ c.loop-number.invariant
 
 pub returns : goal.returns

@@ -5,9 +5,9 @@ use Rattle.tables.proofs.pipes.Pipes.remove.Goals as goal
 pub returns-in-Some : goal.returns-in-Some
 returns-in-Some c =
     let t = c.args.self.now in
-    c.close-up.ensures ∙ removed_some c.args.number t.used t.entries c.pipes.result.now (omega arith) c.pipes.ensures c.in-Some.i c.in-Some.ensures.found
+    c.close_up.ensures ∙ removed_some c.args.number t.used t.entries c.pipes.result.now (omega arith) c.pipes.ensures c.in-Some.i c.in-Some.ensures.found
 
-pub returns-in-default : goal.returns-in-default
-returns-in-default c =
+pub returns-in_default : goal.returns-in_default
+returns-in_default c =
     let t = c.args.self.now in
-    exchanged_none c.args.number t.used t.entries c.pipes.result.now (omega arith) c.pipes.ensures [] c.in-default.ensures.found
+    exchanged_none c.args.number t.used t.entries c.pipes.result.now (omega arith) c.pipes.ensures [] c.in_default.ensures.found

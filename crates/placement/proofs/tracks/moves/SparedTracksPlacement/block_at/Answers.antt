@@ -18,25 +18,25 @@ returns-then-sectors-eq0 c n h e =
 ranked : (p : SparedTracks) (place : ℕ) (lent : List ℕ) (r : Option ℕ) → lent ≡ vec_items p.spared → r ≡ rank (place / p.shape.sectors) 0 lent → rank (place / p.shape.sectors) 0 (vec_items p.spared) ≡ r
 ranked p place lent r same found = sym (of_lent (rank (place / p.shape.sectors) 0) lent (vec_items p.spared) r same found)
 
-pub returns-in-err-below : goal.returns-in-err-below
-returns-in-err-below c =
+pub returns-in_err-below : goal.returns-in_err-below
+returns-in_err-below c =
     let p = c.args.self.now in
-    rw c.from-residual.ensures (none_spared p.shape (vec_items p.spared) p.sized p.listed c.args.place (ranked p c.args.place c.as-slice.result.now None c.as-slice.ensures.value c.in-err-below.ensures))
+    rw c.from_residual.ensures (none_spared p.shape (vec_items p.spared) p.sized p.listed c.args.place (ranked p c.args.place c.as_slice.result.now None c.as_slice.ensures.value c.in_err-below.ensures))
 
-led : (c : goal.After-block-on-arg·1) → (c.in-ok-below.below ≤ c.args.place / c.args.self.now.shape.sectors) × (c.args.self.now.shape.firmware ≤ c.args.place / c.args.self.now.shape.sectors - c.in-ok-below.below)
+led : (c : goal.After-block_on-arg-1) → (c.in_ok-below.below ≤ c.args.place / c.args.self.now.shape.sectors) × (c.args.self.now.shape.firmware ≤ c.args.place / c.args.self.now.shape.sectors - c.in_ok-below.below)
 led c =
     let p = c.args.self.now in
-    let b = back p.shape (vec_items p.spared) p.sized p.listed c.args.place c.in-ok-below.below c.if-place-sectors.false (ranked p c.args.place c.as-slice.result.now (Some c.in-ok-below.below) c.as-slice.ensures.value c.in-ok-below.ensures) in
+    let b = back p.shape (vec_items p.spared) p.sized p.listed c.args.place c.in_ok-below.below c.if-place-sectors.false (ranked p c.args.place c.as_slice.result.now (Some c.in_ok-below.below) c.as_slice.ensures.value c.in_ok-below.ensures) in
     (b.0, b.1)
 
-pub overflow-sub-track : goal.overflow-sub-track
-overflow-sub-track c = (led c).0
+pub overflow_sub-track : goal.overflow_sub-track
+overflow_sub-track c = (led c).0
 
-pub overflow-sub-track-2 : goal.overflow-sub-track-2
-overflow-sub-track-2 c = (led c).1
+pub overflow_sub-track-2 : goal.overflow_sub-track-2
+overflow_sub-track-2 c = (led c).1
 
 pub returns : goal.returns
 returns c =
     let p = c.args.self.now in
     let pos : 0 < p.shape.sectors = omega (arith, c.if-sectors-eq0.false) in
-    rw c.block-on.ensures (some_or_none p.shape (vec_items p.spared) p.sized p.listed c.args.place c.in-ok-below.below c.if-place-sectors.false (ranked p c.args.place c.as-slice.result.now (Some c.in-ok-below.below) c.as-slice.ensures.value c.in-ok-below.ensures) pos)
+    rw c.block_on.ensures (some_or_none p.shape (vec_items p.spared) p.sized p.listed c.args.place c.in_ok-below.below c.if-place-sectors.false (ranked p c.args.place c.as_slice.result.now (Some c.in_ok-below.below) c.as_slice.ensures.value c.in_ok-below.ensures) pos)

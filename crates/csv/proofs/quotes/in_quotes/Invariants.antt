@@ -1,6 +1,0 @@
-use Rattle.std.proofs.Common.{◌≡◌, ◌∷◌, ◌++◌, drop, vec_items}
-use Rattle.csv.specs.Rows.{doubled}
-use Rattle.csv.proofs.quotes.in_quotes.Given as goal
-
-abbrev pub invariant-loop-byte : goal.invariant-loop-byte
-invariant-loop-byte l = vec_items l.out ++ doubled (drop l.byte-index l.field) ≡ 34 ∷ doubled l.field
