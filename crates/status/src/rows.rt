@@ -22,7 +22,7 @@ pub(crate) fn put_row(row: &[u8; 8], at: usize, out: &mut [u8])
 
 pub(crate) fn put_rows<R: Row>(rows: &[R], from: usize, out: &mut [u8])
     requires { from + 8 * length rows.now ≤ length out.old }
-    ensures { out.new ≡ with_part out.old from (bytes_of bytes rows.now) }
+    ensures { out.new ≡ with_part out.old from (bytes_of R.bytes rows.now) }
 {
     let mut at = from;
     for row in rows {
