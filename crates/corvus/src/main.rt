@@ -1,5 +1,6 @@
 #![tactic(auto)]
 // corvus: rooms, their places on drives, house images and packets, from the command line.
+use std::process::ExitCode;
 use stop::Stop;
 
 mod builds;
@@ -23,10 +24,6 @@ mod stand_in;
 mod stop;
 mod table;
 mod words;
-
-// The program has said why on standard error.
-#[derive(Drop)]
-struct Failed;
 
 // How many words, at least and at most, follow the command. None for what is no command.
 fn arity(command: &str) -> Option<(usize, usize)> {
@@ -100,12 +97,13 @@ fn started(rt: &HostRuntime) -> Result<(), Stop> {
     run(rt, words.as_slice())
 }
 
-fn main(rt: HostRuntime) -> Result<(), Failed> {
+// A command that ends early has its line on standard error, and status 1.
+fn main(rt: HostRuntime) -> ExitCode {
     match started(&rt) {
-        Ok(()) => Ok(()),
+        Ok(()) => ExitCode::SUCCESS,
         Err(stop) => {
             let _ = eprintln!(rt; "corvus: {stop}");
-            Err(Failed)
+            ExitCode::FAILURE
         }
     }
 }
