@@ -1,7 +1,7 @@
 -- The pipes of the table stand in the area by rising start, apart, each number once: what keeps that.
 use Rattle.std.proofs.Common.{◌≡◌, ℕ, zero, suc, ◌+◌, ◌-◌, ◌/◌, ◌<◌, ◌≤◌, Bool, true, false, cond, not, ◌&&◌, ◌||◌, eqb, ltb, leb, ◌⊎◌, List, [], ◌∷◌, ◌++◌, length, Some, None, Option, sym, refl, ap, ◌∙◌, subst, inl, inr, ⊎_elim, arith}
 use native.Mathlib.Nat.{sub_self, sub-zero}
-use Rattle.std.specs.List.{AllByRecursion as All}
+use Rattle.std.specs.List.{AllByRecursion}
 use Rattle.std.proofs.ByRecursion.{All-weaker, All-append}
 use Rattle.std.proofs.lemmas.Bool.{eqb-true, eqb-false, ltb-true, ne_eqb, eq-eqb, cond_both}
 use Rattle.model.specs.declared.pipe.Pipe.{Pipe}
@@ -15,7 +15,7 @@ use Rattle.model.specs.Gaps.{keeps, gap, gaps, most, no_gap, best_gap}
 some_none : {X : Type 0} {P : Type 0} (x : X) (o : Option X) → o ≡ None → o ≡ Some x → P
 some_none x o e f = absurd (let z : ◌≡◌ {A = ℕ} 0 1 = cc in omega arith)
 
-pub all_both : {X : Type 0} (P Q : X → Type 0) (xs : List X) → All P xs → All Q xs → All (λ x. P x × Q x) xs
+pub all_both : {X : Type 0} (P Q : X → Type 0) (xs : List X) → AllByRecursion P xs → AllByRecursion Q xs → AllByRecursion (λ x. P x × Q x) xs
 all_both P Q [] ps qs = tt
 all_both P Q (x ∷ xs) ps qs = ((ps.0, qs.0), all_both P Q xs ps.1 qs.1)
 
@@ -40,7 +40,7 @@ rising_top : (low : ℕ) (ps : List Pipe) (top : ℕ) → Rising low ps top → 
 rising_top low [] top r = r
 rising_top low (p ∷ ps) top r = let i = rising_top p.end ps top r.2 in omega arith
 
-pub all_lie : (low : ℕ) (ps : List Pipe) (top : ℕ) → Rising low ps top → All (Lies low top) ps
+pub all_lie : (low : ℕ) (ps : List Pipe) (top : ℕ) → Rising low ps top → AllByRecursion (Lies low top) ps
 all_lie low [] top r = tt
 all_lie low (p ∷ ps) top r = (
   record { from = r.0; forth = r.1; to = rising_top p.end ps top r.2 },
@@ -91,7 +91,7 @@ found_own p (q ∷ ps) e = go (numbered p.number q) refl e (found_own p ps)
 pub found : (k : ℕ) (p : Pipe) (ps : List Pipe) → find k ps ≡ Some p → Found p ps
 found k p ps e = found_own p ps (subst (λ i. find i ps ≡ Some p) (found_number k p ps e) e)
 
-pub all_found : (P : Pipe → Type 0) {p : Pipe} {ps : List Pipe} → Found p ps → All P ps → P p
+pub all_found : (P : Pipe → Type 0) {p : Pipe} {ps : List Pipe} → Found p ps → AllByRecursion P ps → P p
 all_found P here h = h.0
 all_found P (past e f) h = all_found P f h.1
 
@@ -99,11 +99,11 @@ own : (p : Pipe) → numbered p.number p ≡ true
 own p = eq-eqb p.number p.number refl
 
 -- No pipe has number k.
-pub absent : (P Q : Pipe → Type 0) (k : ℕ) → ((x : Pipe) → numbered k x ≡ false → P x → Q x) → (ps : List Pipe) → find k ps ≡ None → All P ps → All Q ps
+pub absent : (P Q : Pipe → Type 0) (k : ℕ) → ((x : Pipe) → numbered k x ≡ false → P x → Q x) → (ps : List Pipe) → find k ps ≡ None → AllByRecursion P ps → AllByRecursion Q ps
 absent P Q k other [] e h = tt
 absent P Q k other (q ∷ ps) e h = go (numbered k q) refl e (absent P Q k other ps)
   where
-    go : (b : Bool) → numbered k q ≡ b → cond b (Some q) (find k ps) ≡ None → (find k ps ≡ None → All P ps → All Q ps) → All Q (q ∷ ps)
+    go : (b : Bool) → numbered k q ≡ b → cond b (Some q) (find k ps) ≡ None → (find k ps ≡ None → AllByRecursion P ps → AllByRecursion Q ps) → AllByRecursion Q (q ∷ ps)
     go true t e i = some_none q (Some q) e refl
     go false t e i = (other q t h.0, i e h.1)
 
@@ -113,7 +113,7 @@ module _ (p : Pipe) (qs : List Pipe) where
   rising-exchanged top t fits low (here {ps = ps}) r l = let e = own p in rw e (fits low ps r.0 r.2 (rw e at l))
   rising-exchanged top t fits low (past {q = q} e f) r l = rw e (r.0, r.1, rising-exchanged top t fits q.end f r.2 (rw e at l))
 
-  pub all_exchanged : (P Q : Pipe → Type 0) → ((x : Pipe) → numbered p.number x ≡ false → P x → Q x) → All Q qs → {ps : List Pipe} → Found p ps → EachOnce ps → All P ps → All Q (exchanged p.number qs ps)
+  pub all_exchanged : (P Q : Pipe → Type 0) → ((x : Pipe) → numbered p.number x ≡ false → P x → Q x) → AllByRecursion Q qs → {ps : List Pipe} → Found p ps → EachOnce ps → AllByRecursion P ps → AllByRecursion Q (exchanged p.number qs ps)
   all_exchanged P Q other new (here {ps = ps}) s h =
       let e = own p in
       rw e (All-append Q qs ps new (absent P Q p.number other ps s.0 h.1))
@@ -147,7 +147,7 @@ once_less p fd s = once_exchanged p [] (λ x rest d h. h) (λ rest h r. r) fd s
 
 -- A new pipe, of a number that none has.
 module _ (p : Pipe) where
-  pub all_inserted : (P : Pipe → Type 0) → P p → (n : ℕ) (ps : List Pipe) → All P ps → All P (inserted n p ps)
+  pub all_inserted : (P : Pipe → Type 0) → P p → (n : ℕ) (ps : List Pipe) → AllByRecursion P ps → AllByRecursion P (inserted n p ps)
   all_inserted P new zero ps h = (new, h)
   all_inserted P new (suc n) [] h = (new, tt)
   all_inserted P new (suc n) (q ∷ ps) h = (h.0, all_inserted P new n ps h.1)
@@ -188,7 +188,7 @@ keeps_fits true low high h = omega arith
 keeps_fits false low high h = omega arith
 
 -- what holds of each gap holds of the one that gives most, if it gives a block
-most_of : (P : Gap → Type 0) (g : Gap) (gs : List Gap) → (0 < g.gives → P g) → All P gs → 0 < (most g gs).gives → P (most g gs)
+most_of : (P : Gap → Type 0) (g : Gap) (gs : List Gap) → (0 < g.gives → P g) → AllByRecursion P gs → 0 < (most g gs).gives → P (most g gs)
 most_of P g [] h a = h
 most_of P g (f ∷ fs) h a = most_of P (cond (ltb g.gives f.gives) f g) fs (cond_both (ltb g.gives f.gives) f g (λ x. 0 < x.gives → P x) (λ _ _. a.0) (λ _. h)) a.1
 
@@ -201,7 +201,7 @@ module _ (k n : ℕ) where
       let e : g.below - i ≡ suc (g.below - suc i) = omega arith in
       (omega arith, rw e (a, b, h.1))
 
-  in_gaps : (i : ℕ) (writing : Bool) (low : ℕ) (ps : List Pipe) (top : ℕ) → Rising low ps top → All (InGap i low ps top) (gaps i writing low ps top)
+  in_gaps : (i : ℕ) (writing : Bool) (low : ℕ) (ps : List Pipe) (top : ℕ) → Rising low ps top → AllByRecursion (InGap i low ps top) (gaps i writing low ps top)
   in_gaps i writing low [] top r = let f = keeps_fits writing low top r in ((omega arith, rw (sub_self i) (omega arith, omega arith, f)), tt)
   in_gaps i writing low (p ∷ ps) top r =
       let f = keeps_fits writing low p.start r.0 in (
@@ -218,12 +218,12 @@ module _ (k n : ℕ) where
 abbrev pub Outside : ℕ → Pipe → Type 0
 Outside e p = (p.end ≤ e) ⊎ (e < p.start)
 
-all_above : (e low : ℕ) (ps : List Pipe) (top : ℕ) → Rising low ps top → e < first_start ps top → All (Outside e) ps
+all_above : (e low : ℕ) (ps : List Pipe) (top : ℕ) → Rising low ps top → e < first_start ps top → AllByRecursion (Outside e) ps
 all_above e low [] top r h = tt
 all_above e low (p ∷ ps) top r h = (inr h, all_above e p.end ps top r.2 (let t = start_above p.end ps top r.2 in omega arith))
 
 -- the end of a pipe is outside every pipe, where it is below the next start
-pub end_outside : (p : Pipe) (low top : ℕ) {ps : List Pipe} → Found p ps → Rising low ps top → p.end < next_start p.number ps top → All (Outside p.end) ps
+pub end_outside : (p : Pipe) (low top : ℕ) {ps : List Pipe} → Found p ps → Rising low ps top → p.end < next_start p.number ps top → AllByRecursion (Outside p.end) ps
 end_outside p low top (here {ps = ps}) r l = let e = own p in (inl (omega arith), all_above p.end p.end ps top r.2 (rw e at l))
 end_outside p low top (past {q = q} {ps = ps} e f) r l =
     let h = all_found (Lies q.end top) f (all_lie q.end ps top r.2) in

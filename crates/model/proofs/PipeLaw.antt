@@ -1,7 +1,7 @@
 -- The law of pipes: what holds of the table, the area and the volume after every request.
 use Rattle.std.proofs.Common.{◌≡◌, ℕ, ◌+◌, ◌-◌, ◌<◌, ◌≤◌, Bool, true, false, cond, not, eqb, ltb, leb, ◌⊎◌, List, [], ◌∷◌, ◌++◌, Some, None, Option, sym, refl, ap, ◌∙◌, subst, inl, inr, ⊎_elim, append_assoc, arith}
 use native.Mathlib.Nat.{sub_self}
-use Rattle.std.specs.List.{AllByRecursion as All}
+use Rattle.std.specs.List.{AllByRecursion}
 use Rattle.std.proofs.ByRecursion.{All-weaker}
 use Rattle.std.proofs.lemmas.Bool.{eq-eqb, cond_both, lt-ltb, le-leb, cases_lt, both_ways}
 use Rattle.volume.specs.Meanings.{Block, sound, Meaning, block_of}
@@ -22,7 +22,7 @@ use Rattle.model.proofs.Standing.{Apart, stored_here, standing_kept, standing_fi
 pub record Orderly (P : Pipe → Type 0) (count : ℕ) (a : Area) (ps : List Pipe) : Type 0 where
   pub rising : Rising a.first ps (area_end a)
   pub once : EachOnce ps
-  pub passes : All P ps
+  pub passes : AllByRecursion P ps
   pub inside : area_end a ≤ count
 
 abbrev pub OrderlyIn : (Pipe → Type 0) → ℕ → Option Area → List Pipe → Type 0

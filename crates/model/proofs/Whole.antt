@@ -1,6 +1,6 @@
 -- The laws over whole runs.
 use Rattle.std.proofs.Common.{◌≡◌, ℕ, List, [], ◌∷◌, Some, None, Option, sym, refl, ap, subst}
-use Rattle.std.specs.List.{AllByRecursion as All}
+use Rattle.std.specs.List.{AllByRecursion}
 use Rattle.volume.specs.Meanings.{Meaning, block_of}
 use Rattle.model.specs.declared.pipe.Pipe.{Pipe}
 use Rattle.model.specs.declared.pipe.Area.{Area}
@@ -40,8 +40,8 @@ along : {w₀ : World} {h : History} {w : World} → Making w₀ → Run w₀ h 
 along {w₀} m start = at_making w₀ m
 along m (then {h = h} {v = v} {w = w} {r = q} r e) = keep _ (effects h) _ v w (subst (Stepped v q) e (changes v q)) (along m r)
 
-law_of_pipes : (P : Pipe → Type 0) (count : ℕ) (o : Option Area) (ps : List Pipe) → OrderlyIn P count o ps → All P ps
-law_of_pipes P count None ps e = subst (All P) (sym e) tt
+law_of_pipes : (P : Pipe → Type 0) (count : ℕ) (o : Option Area) (ps : List Pipe) → OrderlyIn P count o ps → AllByRecursion P ps
+law_of_pipes P count None ps e = subst (AllByRecursion P) (sym e) tt
 law_of_pipes P count (Some a) ps s = s.passes
 
 pub laws_hold : LawsHold

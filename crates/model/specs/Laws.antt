@@ -1,6 +1,6 @@
 -- What holds after every list of requests from the making, of the history and of the world that it leads to.
 use Rattle.std.specs.Prelude.{◌≡◌, ℕ, zero, suc, ◌+◌, ◌-◌, ◌<◌, ◌≤◌, Bool, true, false, cond, ◌⊎◌, ◌↔◌, List, [], ◌∷◌, ◌++◌, length, Some, None, Option, ◌==◌, slice_index_or}
-use Rattle.std.specs.List.{AllByRecursion as All}
+use Rattle.std.specs.List.{AllByRecursion}
 use Rattle.volume.specs.Meanings.{Block, sound, lost, block_of}
 use Rattle.volume.specs.Parts.{part}
 use Rattle.packet.specs.Commands.{lock}
@@ -122,7 +122,7 @@ abbrev pub Passes : List Effect → (ℕ → Block) → Pipe → Type 0
 Passes es at p = reads p.number es ++ standing at p.start (p.end - p.start) ≡ writes p.number es
 
 abbrev pub LawOfPipes : History → World → Type 0
-LawOfPipes h w = All (Passes (effects h) (block_of w.volume)) w.pipes
+LawOfPipes h w = AllByRecursion (Passes (effects h) (block_of w.volume)) w.pipes
 
 -- Blocks
 

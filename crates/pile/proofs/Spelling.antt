@@ -1,6 +1,6 @@
 -- Which places runs count out, and what one more place does to them.
 use Rattle.std.proofs.Common.{◌≡◌, ℕ, zero, suc, ◌+◌, ◌-◌, ◌<◌, ◌≤◌, ◌⊎◌, List, [], ◌∷◌, ◌++◌, map, length, get_or, take, set, Some, sym, refl, ap, ◌∙◌, subst, inl, inr, ⊎_elim, append_assoc, arith, length-append}
-use Rattle.std.specs.List.{range_with_len, ContainsAt as Has}
+use Rattle.std.specs.List.{range_with_len, ContainsAt}
 use Rattle.std.proofs.lemmas.List.{get_or_append_left, get_or-append_right, get_or_default, flat_map_more, length-set, map-id, take_all, take_more, take_more_set}
 use Rattle.std.proofs.lemmas.List.FromFn.{length-range_with_len, get_or-range_with_len, length-map-range_with_len, map-range_with_len_more}
 use Rattle.std.proofs.ByRecursion.{has_append_left, has_append_right}
@@ -12,7 +12,7 @@ use Rattle.pile.proofs.Rising.{placed}
 
 -- Which places are among them
 
-has_append_cases : (xs ys : List ℕ) (x : ℕ) → Has (xs ++ ys) x → Has xs x ⊎ Has ys x
+has_append_cases : (xs ys : List ℕ) (x : ℕ) → ContainsAt (xs ++ ys) x → ContainsAt xs x ⊎ ContainsAt ys x
 has_append_cases xs ys x h =
     let k = h.0 in
     ⊎_elim
@@ -20,7 +20,7 @@ has_append_cases xs ys x h =
     (λ (high : length xs ≤ k). inr (k - length xs, omega (arith, h.1, length-append xs ys), λ d. sym (get_or-append_right xs ys (length xs) k d refl high) ∙ h.2 d))
     (cases_lt k (length xs))
 
-in_from_has : (run : Run) (p : ℕ) → Has (places_of run) p → InRun run p
+in_from_has : (run : Run) (p : ℕ) → ContainsAt (places_of run) p → InRun run p
 in_from_has run p h =
     let k = h.0 in
     let below : k < run.count = omega (arith, h.1, length-range_with_len run.first run.count) in
@@ -28,14 +28,14 @@ in_from_has run p h =
     let here = h.2 0 in
     (omega arith, omega arith)
 
-has_from_in : (run : Run) (p : ℕ) → InRun run p → Has (places_of run) p
+has_from_in : (run : Run) (p : ℕ) → InRun run p → ContainsAt (places_of run) p
 has_from_in run p h =
     let k : ℕ = p - run.first in
     let below : k < run.count = omega arith in
     let back : run.first + k ≡ p = omega arith in
     (k, omega (arith, length-range_with_len run.first run.count), λ d. get_or-range_with_len run.first run.count k d below ∙ back)
 
-pub has_from_run : (runs : List Run) (i : ℕ) (d : Run) (p : ℕ) → i < length runs → InRun (get_or runs i d) p → Has (spelled runs) p
+pub has_from_run : (runs : List Run) (i : ℕ) (d : Run) (p : ℕ) → i < length runs → InRun (get_or runs i d) p → ContainsAt (spelled runs) p
 has_from_run [] i d p h k = absurd (omega arith)
 has_from_run (run ∷ runs) zero d p h k = has_append_left (places_of run) (spelled runs) p (has_from_in run p k)
 has_from_run (run ∷ runs) (suc i) d p h k = has_append_right (places_of run) (spelled runs) p (has_from_run runs i d p (omega arith) k)
@@ -45,7 +45,7 @@ spelled_push runs run = sym (flat_map_more places_of [] runs run)
 
 -- no place of the runs below i is among Q
 abbrev pub Free : (ℕ → Type 0) → List Run → ℕ → Type 0
-Free Q runs i = (p : ℕ) → Q p → Has (spelled (take i runs)) p → ⊥
+Free Q runs i = (p : ℕ) → Q p → ContainsAt (spelled (take i runs)) p → ⊥
 
 pub free_none : (Q : ℕ → Type 0) (runs : List Run) → Free Q runs 0
 free_none Q runs p q h = omega (arith, h.1)
@@ -54,10 +54,10 @@ pub free_more : (Q : ℕ → Type 0) (runs : List Run) (i : ℕ) (d : Run) → i
 free_more Q runs i d h free here p q among =
     let run = get_or runs i d in
     let more = ap spelled (take_more runs i d h) ∙ spelled_push (take i runs) run in
-    ⊎_elim (free p q) (λ k. here p q (in_from_has run p k)) (has_append_cases (spelled (take i runs)) (places_of run) p (subst (λ xs. Has xs p) more among))
+    ⊎_elim (free p q) (λ k. here p q (in_from_has run p k)) (has_append_cases (spelled (take i runs)) (places_of run) p (subst (λ xs. ContainsAt xs p) more among))
 
-pub free_all : (Q : ℕ → Type 0) (runs : List Run) (i : ℕ) → length runs ≤ i → Free Q runs i → (p : ℕ) → Q p → Has (spelled runs) p → ⊥
-free_all Q runs i h free p q among = free p q (subst (λ rs. Has (spelled rs) p) (sym (take_all i runs h)) among)
+pub free_all : (Q : ℕ → Type 0) (runs : List Run) (i : ℕ) → length runs ≤ i → Free Q runs i → (p : ℕ) → Q p → ContainsAt (spelled runs) p → ⊥
+free_all Q runs i h free p q among = free p q (subst (λ rs. ContainsAt (spelled rs) p) (sym (take_all i runs h)) among)
 
 -- One more place
 

@@ -1,6 +1,6 @@
 // Runs of places that follow one another.
 ghost use Rattle.std.specs.Prelude.{◌≡◌, ℕ, ◌+◌, ◌<◌, map, length, IfOk, MatchOption, OnOk, ◌==◌};
-ghost use Rattle.std.specs.List.{range_with_len, ContainsAt as Has};
+ghost use Rattle.std.specs.List.{range_with_len, ContainsAt};
 ghost use Rattle.pile.specs.Runs.{spelled, InRun, Longest, Placed};
 
 use std::alloc::{AllocError, Global};
@@ -60,7 +60,7 @@ fn put_place(runs: &mut Vec<Run>, place: u32) -> Result<(), AllocError>
 
 // A place that both have.
 pub fn shared_place(a: &[Run], b: &[Run]) -> Option<u32>
-    ensures { MatchOption result ((p : ℕ) → Has (spelled a.now) p → Has (spelled b.now) p → ⊥) (λ p. Has (spelled a.now) p × Has (spelled b.now) p) }
+    ensures { MatchOption result ((p : ℕ) → ContainsAt (spelled a.now) p → ContainsAt (spelled b.now) p → ⊥) (λ p. ContainsAt (spelled a.now) p × ContainsAt (spelled b.now) p) }
 {
     for run in a {
         if let Some(place) = place_among(*run, b) {
@@ -72,7 +72,7 @@ pub fn shared_place(a: &[Run], b: &[Run]) -> Option<u32>
 
 // A place of the run that the others have.
 fn place_among(run: Run, others: &[Run]) -> Option<u32>
-    ensures { MatchOption result ((p : ℕ) → InRun run p → Has (spelled others.now) p → ⊥) (λ p. InRun run p × Has (spelled others.now) p) }
+    ensures { MatchOption result ((p : ℕ) → InRun run p → ContainsAt (spelled others.now) p → ⊥) (λ p. InRun run p × ContainsAt (spelled others.now) p) }
 {
     for other in others {
         if let Some(place) = common_place(run, *other) {

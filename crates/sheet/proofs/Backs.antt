@@ -6,7 +6,7 @@ use Rattle.sheet.specs.Records.{mark_of, from, front, plain, inside, closed, rea
 use Rattle.sheet.proofs.Places.{inside-byte, plain_byte, plain_end, closed_end, front-plain}
 use Rattle.sheet.specs.Steps.{ended}
 use Rattle.sheet.specs.declared.fields.Mark.TheVariants.{Byte}
-use Rattle.std.specs.List.{AllByRecursion as All}
+use Rattle.std.specs.List.{AllByRecursion}
 use Rattle.sheet.specs.Rows.{doubled, quoted, Ordinary, Field, bare, in_quotes, Row, one, more, Ending, lf, cr_lf, text_end, line_ends, ReadsBack}
 
 -- One more byte of a field in quotes.
@@ -70,7 +70,7 @@ lines_quoted f = omega (arith, lines_append (doubled f) (34 ∷ []), lines_doubl
 ordinary_mark : (b : ℕ) (bs : List ℕ) → Ordinary b → mark_of (b ∷ bs) ≡ Byte
 ordinary_mark b bs h = rw (ne_eqb b 44 h.0, ne_eqb b 10 h.1, ne_eqb b 13 h.2)
 
-plain_bare : (f text : List ℕ) (fields : List (List ℕ)) (g : List ℕ) (n : ℕ) → All Ordinary f → from plain fields g n (f ++ text) ≡ from plain fields (g ++ f) (n + line_ends f) text
+plain_bare : (f text : List ℕ) (fields : List (List ℕ)) (g : List ℕ) (n : ℕ) → AllByRecursion Ordinary f → from plain fields g n (f ++ text) ≡ from plain fields (g ++ f) (n + line_ends f) text
 plain_bare [] text fields g n h = simp (append-nil, add-zero)
 plain_bare (b ∷ f) text fields g n h =
     plain_byte fields g n b (f ++ text) (ordinary_mark b (f ++ text) h.0)

@@ -1,6 +1,6 @@
 -- How a record may be written, and that it reads back.
 use Rattle.std.specs.Prelude.{◌≡◌, ℕ, ◌+◌, cond, List, [], ◌∷◌, ◌++◌, ◌==◌, ◌≢◌, slice_index}
-use Rattle.std.specs.List.{AllByRecursion as All}
+use Rattle.std.specs.List.{AllByRecursion}
 use Rattle.sheet.specs.Records.{record_of, read}
 
 abbrev pub doubled : List ℕ → List ℕ
@@ -16,7 +16,7 @@ Ordinary b = (b ≢ 44) × (b ≢ 10) × (b ≢ 13)
 
 -- any field may stand in quotes, and one of ordinary bytes that does not begin with a quote may stand as it is
 pub data Field : List ℕ → List ℕ → Type 0 where
-  bare : {f : List ℕ} → (slice_index f 0 ≢ 34) → All Ordinary f → Field f f
+  bare : {f : List ℕ} → (slice_index f 0 ≢ 34) → AllByRecursion Ordinary f → Field f f
   in_quotes : {f : List ℕ} → Field f (quoted f)
 
 -- fields parted by commas
