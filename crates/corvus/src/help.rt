@@ -3,8 +3,7 @@ use crate::stop::Stop;
 use std::alloc::{AllocError, Global};
 
 const TEXT: &str = "\
-corvus: where the blocks of a room's drive lie, what a house image holds, what a packet says and
-what the box answers to it
+corvus: where the blocks of a room's drive lie, what a house image holds, what a packet says
 
 On a room table:
 
@@ -57,7 +56,22 @@ On packets:
       pipe-read NUMBER LENGTH, pipe-write NUMBER LENGTH HEX..., close NUMBER
         corvus build read 256 1 16
 
-The box:
+  corvus help
+      This page.
+
+A room table is a CSV file whose first line is
+  room,image,tracks,sectors,firmware,spares,spared,offset,length
+and which has a line for each room. Numbers are decimal. The image is a path from the
+table's folder. Spared is a list of tracks with blanks between them. Offset and length
+are the room's window, in blocks. Without tracks, the window lies on the image itself;
+without a window too, the room is the whole image.
+
+A refusal is one line on standard error, and the status is then 1.
+";
+
+// The box has a page of its own.
+const BOX: &str = "\
+corvus: what the box answers to packets
 
   corvus run [--save] [SCENARIO]
       Runs a scenario (standard input without a name) and prints a line for each packet:
@@ -76,15 +90,8 @@ The box:
       An accepted write is in the image before its answer goes out.
         corvus serve examples/images/studios.img examples/rooms.csv 'Studio A'
 
-  corvus help
-      This page.
-
-A room table is a CSV file whose first line is
-  room,image,tracks,sectors,firmware,spares,spared,offset,length
-and which has a line for each room. Numbers are decimal. The image is a path from the
-table's folder. Spared is a list of tracks with blanks between them. Offset and length
-are the room's window, in blocks. Without tracks, the window lies on the image itself;
-without a window too, the room is the whole image.
+  corvus run --help, corvus tables --help, corvus serve --help
+      This page. 'corvus help' has the other commands.
 
 A scenario has a line for each step, and # starts a comment:
   volume work FILE           starts afresh with a house image; shelf FILE: with one that is
@@ -100,6 +107,11 @@ A refusal is one line on standard error, and the status is then 1.
 
 pub(crate) fn print(rt: &HostRuntime) -> Result<(), Stop> {
     rt.print(TEXT)?;
+    Ok(())
+}
+
+pub(crate) fn print_box(rt: &HostRuntime) -> Result<(), Stop> {
+    rt.print(BOX)?;
     Ok(())
 }
 
@@ -125,9 +137,19 @@ fn usage(command: &str) -> &'static str {
     }
 }
 
+// Is it a command of the box?
+pub(crate) fn is_of_box(command: &str) -> bool {
+    matches!(command, "run" | "serve" | "tables")
+}
+
 pub(crate) fn wrong_words(heap: Global, command: &str) -> Result<Stop, AllocError> {
     let usage = usage(command);
+    let page = if is_of_box(command) {
+        "run --help"
+    } else {
+        "help"
+    };
     Ok(Stop::Said(format!(in heap;
-        "wrong number of words: it is 'corvus {usage}'; try 'corvus help'"
+        "wrong number of words: it is 'corvus {usage}'; try 'corvus {page}'"
     )?))
 }

@@ -74,6 +74,9 @@ fn run(rt: &HostRuntime, words: &[String]) -> Result<(), Stop> {
         return help::print(rt);
     };
     let command = command.as_str();
+    if help::is_of_box(command) && table::field(words, 1) == "--help" {
+        return help::print_box(rt);
+    }
     let Some((least, most)) = arity(command) else {
         return Err(help::unknown(rt.alloc(), command)?);
     };
