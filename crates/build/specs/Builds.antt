@@ -1,5 +1,5 @@
 -- What building a packet answers, and what it leaves in the buffer.
-use Rattle.std.specs.Prelude.{ℕ, ◌^◌, ◌<◌, Bool, true, false, cond, List, ◌++◌, length, drop, Ok, Err, Result, nat_le}
+use Rattle.std.specs.Prelude.{ℕ, ◌^◌, ◌<◌, cond, List, ◌++◌, length, drop, Ok, Err, Result, nat_le}
 use Rattle.packet.specs.Commands.{Command, read, write, lock, unlock, initialize_semaphores, status, initialize_area, open_write, open_read, pipe_read, pipe_write, close}
 use Rattle.packet.specs.Packets.{packet_of, in_range}
 use Rattle.build.specs.declared.refusal.BuildRefusal.{BuildRefusal}

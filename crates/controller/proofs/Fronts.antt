@@ -1,5 +1,5 @@
 -- What stands at the front of a buffer after a call that reads.
-use Rattle.std.proofs.Common.{◌≡◌, ℕ, ◌+◌, ◌-◌, ◌≤◌, Bool, true, false, cond, ◌&&◌, leb, List, ◌++◌, length, take, drop, Some, None, Option, sym, refl, ap, ◌∙◌, subst, arith, length-drop, length-take}
+use Rattle.std.proofs.Common.{◌≡◌, ℕ, ◌+◌, ◌≤◌, Bool, true, false, cond, ◌&&◌, leb, List, length, take, drop, Some, None, sym, refl, ap, ◌∙◌, arith, length-drop, length-take}
 use Rattle.std.proofs.lemmas.List.{take_at}
 use Rattle.std.proofs.lemmas.Bool.{cond-true, and_parts}
 use Rattle.volume.specs.Parts.{part}
@@ -7,8 +7,7 @@ use Rattle.build.specs.Builds.{front}
 use Rattle.packet.specs.declared.command.Size.{Size}
 use Rattle.packet.specs.Commands.{read, status, size_bytes, first_byte}
 use Rattle.model.specs.declared.pipe.Pipe.{Pipe}
-use Rattle.model.specs.declared.pipe.Area.{Area}
-use Rattle.model.specs.Answers.{Answer, tables}
+use Rattle.model.specs.Answers.{tables}
 use Rattle.model.specs.Worlds.{World}
 use Rattle.model.specs.Tables.{tables_asked}
 use Rattle.model.specs.Steps.{call, obey, step}

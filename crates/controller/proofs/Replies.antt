@@ -1,9 +1,9 @@
 -- Replies that fit, and what a Pipe Read's answer comes to.
-use Rattle.std.proofs.Common.{◌≡◌, ℕ, ◌+◌, ◌≤◌, true, false, List, ◌++◌, length, Ok, Err, Result, sym, refl, ap, ◌∙◌, arith, length-append}
+use Rattle.std.proofs.Common.{◌≡◌, ℕ, ◌+◌, ◌≤◌, false, List, ◌++◌, length, Ok, Err, sym, ap, ◌∙◌, arith, length-append}
 use Rattle.std.proofs.lemmas.Bool.{cond-true, cond-false, le-leb}
 use Rattle.build.specs.declared.refusal.BuildRefusal.{BuildRefusal}
 use Rattle.build.specs.Builds.{put_answer}
-use Rattle.model.specs.Answers.{Answer, no_block}
+use Rattle.model.specs.Answers.{no_block}
 use Rattle.controller.specs.declared.answers.PipeAnswer.{PipeAnswer}
 use Rattle.controller.specs.Answers.{pipe_read_answer, pipe_number, by_volume, is_done}
 

@@ -1,8 +1,5 @@
 -- The number of each answer to a call, and the answer that it stands for.
 use Rattle.std.specs.Prelude.{ℕ, Bool, true, false, cond, List}
-use Rattle.volume.specs.Parts.{part}
-use Rattle.packet.specs.declared.command.Size.{Size}
-use Rattle.packet.specs.Commands.{size_bytes, first_byte}
 use Rattle.tables.specs.declared.answers.LockAnswer.{LockAnswer}
 use Rattle.tables.specs.declared.answers.LockAnswer.TheVariants as locks
 use Rattle.tables.specs.declared.answers.UnlockAnswer.{UnlockAnswer}

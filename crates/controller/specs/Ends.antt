@@ -1,5 +1,4 @@
 -- What an open by call gives.
-use Rattle.std.specs.Prelude.{ℕ}
 use Rattle.model.specs.Answers.{Answer, opened}
 use Rattle.controller.specs.declared.ends.WritingEnd.{WritingEnd}
 use Rattle.controller.specs.declared.ends.ReadingEnd.{ReadingEnd}

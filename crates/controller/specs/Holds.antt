@@ -2,7 +2,6 @@
 use Rattle.std.specs.Prelude.{◌≡◌, ℕ}
 use Rattle.tables.specs.declared.answers.LockAnswer.TheVariants.{Taken}
 use Rattle.model.specs.Answers.{Answer}
-use Rattle.controller.specs.declared.holds.Hold.{Hold}
 use Rattle.controller.specs.declared.holds.Locked.{Locked}
 use Rattle.controller.specs.declared.holds.Locked.TheVariants.{Held, Refused}
 use Rattle.controller.specs.Answers.{lock_answer}

@@ -1,7 +1,7 @@
 -- What overwriting a part of a block comes to.
 use Rattle.std.specs.Prelude.{ℕ, Bool, true, false, List}
 use Rattle.volume.specs.Meanings.{Meaning, Block, sound, lost, block_of}
-use Rattle.model.specs.Sectors.{is_sound, overwritten, stored}
+use Rattle.model.specs.Sectors.{overwritten, stored}
 
 abbrev pub part_written : Meaning → ℕ → ℕ → List ℕ → Block → Bool × Meaning
 part_written m n first new (sound bytes) = (true, stored m n (overwritten first new (sound bytes)))

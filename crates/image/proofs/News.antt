@@ -1,15 +1,13 @@
 -- A new image: a header that says where its map and its blocks lie, with zeros behind it, is a volume of sound blocks of zeros.
-use Rattle.std.proofs.Common.{◌≡◌, ℕ, ◌+◌, ◌-◌, ◌*◌, ◌/◌, ◌%◌, ◌^◌, ◌<◌, ◌≤◌, Bool, true, cond, eqb, ltb, leb, List, ◌++◌, length, get_or, take, drop, replicate, Ok, Err, Result, sym, refl, ap, ◌∙◌, ⊎_elim, mod-eq_of_lt, div-add-mod', arith}
+use Rattle.std.proofs.Common.{◌≡◌, ℕ, ◌+◌, ◌-◌, ◌*◌, ◌/◌, ◌%◌, ◌^◌, ◌<◌, ◌≤◌, Bool, true, eqb, leb, List, ◌++◌, length, get_or, take, drop, replicate, Ok, sym, ap, ◌∙◌, ⊎_elim, mod-eq_of_lt, div-add-mod', arith}
 use mathlib.Core.Path.{fun_ext}
 use native.Mathlib.Nat.{div-div-eq-div-mul}
 use Rattle.std.proofs.lemmas.List.{length-append, length-replicate, get_or_append_left, get_or-append_right, get_or-replicate, drop-replicate, take-replicate, drop-drop, drop_at}
 use Rattle.std.proofs.lemmas.Bool.{cond-true, cond-false, le-leb, eq-eqb, lt-ltb, le-ltb, and_from, or_left, cases_lt}
-use Rattle.volume.specs.Meanings.{Block, sound, lost, with_bottom}
-use Rattle.image.specs.Images.{word, head_of, inside, disjoint, checked_head, checked, sound_head, header_of, block_at, image_meaning}
+use Rattle.volume.specs.Meanings.{sound, with_bottom}
+use Rattle.image.specs.Images.{word, head_of, inside, disjoint, checked_head, sound_head, header_of, block_at, image_meaning}
 use Rattle.image.specs.Makes.{zeroed}
 use Rattle.image.specs.declared.header.Header.{Header}
-use Rattle.image.specs.declared.fault.Fault.{Fault}
-use Rattle.image.specs.declared.fault.Fault.TheVariants.{Length}
 
 -- the four bytes of a number, most significant first, are that number
 pub word_of_bytes : (n : ℕ) → n < 2 ^ 32 → n / 16777216 % 256 * 16777216 + n / 65536 % 256 * 65536 + n / 256 % 256 * 256 + n % 256 ≡ n

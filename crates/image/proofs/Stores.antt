@@ -5,7 +5,7 @@ use Rattle.std.proofs.lemmas.List.{length-set, get_or-set_same, get_or-set_other
 use Rattle.std.proofs.lemmas.Bool.{cond-true, cond-false, lt-ltb, le-ltb, eq-eqb, ne_eqb, cases_eq, cases_lt}
 use Rattle.volume.proofs.Overwritten.{same_parts, length-with_part, with_part_out, part_new}
 use Rattle.volume.specs.Parts.{part}
-use Rattle.volume.specs.Meanings.{Block, sound, lost, with_block, with_bottom}
+use Rattle.volume.specs.Meanings.{sound, lost, with_block, with_bottom}
 use Rattle.image.specs.Images.{header_of, block_at, image_meaning, stored, Fits}
 use Rattle.image.specs.Heads.{header_same}
 use Rattle.image.specs.declared.header.Header.{Header}

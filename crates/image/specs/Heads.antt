@@ -1,10 +1,9 @@
 -- What the check gives of a header, and that bytes which agree on the header have the same.
-use Rattle.std.specs.Prelude.{◌≡◌, ℕ, ◌+◌, ◌-◌, ◌*◌, ◌<◌, ◌≤◌, Bool, true, false, cond, ◌&&◌, ◌||◌, ◌⊎◌, List, ◌++◌, length, Ok, Err, Result, ◌==◌, nat_le, slice_index, refl}
-use Rattle.std.proofs.Common.{sym, ap, ◌∙◌, inl, inr, ⊎_elim, arith}
+use Rattle.std.specs.Prelude.{◌≡◌, ℕ, ◌+◌, ◌*◌, ◌<◌, Bool, true, false, cond, ◌⊎◌, List, length, Ok, Err, ◌==◌, nat_le, slice_index, refl}
+use Rattle.std.proofs.Common.{inl, inr, ⊎_elim, arith}
 use Rattle.std.proofs.lemmas.Bool.{and_parts, or_cases, leb-true}
-use Rattle.image.specs.Images.{word, head_of, inside, disjoint, checked, checked_head, sound_head, header_of, Fits}
+use Rattle.image.specs.Images.{word, head_of, checked_head, sound_head, header_of, Fits}
 use Rattle.image.specs.declared.header.Header.{Header}
-use Rattle.image.specs.declared.fault.Fault.{Fault}
 use Rattle.image.specs.declared.fault.Fault.TheVariants.{Short, Length, Count, Map, Blocks, Overlap}
 
 none : (n : ℕ) → Fits (record { count = 0; map = 0; blocks = 0 }) n

@@ -1,5 +1,5 @@
 -- A house image: four numbers of 4 bytes (block count, map offset, block offset, image length), a map byte for each block, and the blocks.
-use Rattle.std.specs.Prelude.{◌≡◌, ℕ, ◌+◌, ◌*◌, ◌<◌, ◌≤◌, Bool, true, false, cond, ◌&&◌, ◌||◌, ◌⊎◌, List, length, Some, None, Ok, Err, Option, Result, ◌==◌, nat_le, nat_lt, slice_index, slice_set}
+use Rattle.std.specs.Prelude.{ℕ, ◌+◌, ◌*◌, ◌<◌, ◌≤◌, Bool, cond, ◌&&◌, ◌||◌, ◌⊎◌, List, length, Some, None, Ok, Err, Option, Result, ◌==◌, nat_le, nat_lt, slice_index, slice_set}
 use Rattle.volume.specs.Parts.{part, with_part}
 use Rattle.volume.specs.Meanings.{Block, sound, lost, Meaning}
 use Rattle.image.specs.declared.header.Header.{Header}

@@ -1,6 +1,6 @@
 -- A new image: its header, and zeros behind it.
-use Rattle.std.specs.Prelude.{◌≡◌, ℕ, ◌*◌, ◌<◌, ◌≤◌, Bool, cond, ◌⊎◌, List, ◌++◌, replicate, Option, MatchOption, nat_lt}
-use Rattle.volume.specs.Meanings.{Block, sound, lost, Meaning}
+use Rattle.std.specs.Prelude.{◌≡◌, ℕ, ◌*◌, ◌<◌, Bool, cond, ◌⊎◌, List, ◌++◌, replicate, Option, MatchOption, nat_lt}
+use Rattle.volume.specs.Meanings.{sound, lost, Meaning}
 use Rattle.image.specs.Images.{image_meaning}
 
 -- a volume of that many blocks, all sound, all zero

@@ -2,7 +2,7 @@
 use Rattle.std.specs.Prelude.{◌≡◌, ℕ, ◌+◌, ◌*◌, Bool, true, false, cond, List, length, drop, refl}
 use Rattle.std.proofs.Common.{ap, arith, length-take, length-drop}
 use Rattle.std.proofs.lemmas.Bool.{ltb-true}
-use Rattle.volume.specs.Meanings.{Block, sound, lost, Sound}
+use Rattle.volume.specs.Meanings.{sound, lost, Sound}
 use Rattle.image.specs.Images.{header_of, block_at, image_meaning, Fits}
 use Rattle.image.specs.declared.header.Header.{Header}
 use Rattle.image.specs.Heads.{header_fits}

@@ -1,5 +1,5 @@
 -- What holds of the outcome of questions in turn: what holds at each refusal, and where every question is answered yes.
-use Rattle.std.proofs.Common.{◌≡◌, Bool, true, false, cond, List, [], ◌∷◌, Some, None, Option, refl}
+use Rattle.std.proofs.Common.{◌≡◌, Bool, true, List, [], ◌∷◌, Some, None, Option, refl}
 use Rattle.std.proofs.lemmas.Bool.{cond_both}
 use Rattle.model.specs.Answers.{Answer}
 use Rattle.model.specs.Worlds.{World, ask, given}

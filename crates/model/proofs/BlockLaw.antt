@@ -1,11 +1,11 @@
 -- The law of blocks.
-use Rattle.std.proofs.Common.{◌≡◌, ℕ, ◌+◌, ◌<◌, ◌≤◌, Bool, true, false, cond, eqb, ◌⊎◌, List, [], ◌∷◌, Some, None, Option, sym, refl, ap, ◌∙◌, subst, inl, inr, arith}
+use Rattle.std.proofs.Common.{◌≡◌, ℕ, ◌<◌, ◌≤◌, Bool, true, false, cond, eqb, List, ◌∷◌, Some, None, Option, sym, refl, ap, ◌∙◌, subst, inl, inr, arith}
 use Rattle.std.proofs.lemmas.Bool.{ne_eqb, eqb-true}
 use Rattle.volume.specs.Meanings.{Block, sound, Meaning}
 use Rattle.model.specs.declared.pipe.Area.{Area}
 use Rattle.model.specs.Worlds.{World}
 use Rattle.model.specs.Sectors.{area_end, overwritten}
-use Rattle.model.specs.Effects.{Effect, nothing, on_semaphores, on_pipes, on_blocks, brought, covered}
+use Rattle.model.specs.Effects.{Effect, nothing}
 use Rattle.model.specs.Laws.{Covered, laid, laid_in_turn}
 use Rattle.model.proofs.Changes.{Change, still, renames, lays, covers, begins, reopens, hands_out, brings, closes}
 use Rattle.model.proofs.Entries.{Lies, found, all_found, all_lie, next_below}

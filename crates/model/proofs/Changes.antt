@@ -1,5 +1,5 @@
 -- What a request changes, by its effect: all that the laws rest on of what the controller does.
-use Rattle.std.proofs.Common.{◌≡◌, ℕ, ◌+◌, ◌<◌, ◌≤◌, Bool, true, false, cond, not, eqb, ltb, leb, List, [], ◌∷◌, Some, None, Ok, Err, Option, Result, refl}
+use Rattle.std.proofs.Common.{◌≡◌, ℕ, ◌+◌, ◌<◌, ◌≤◌, true, not, eqb, leb, List, Some, Ok, Err, Result, refl}
 use Rattle.std.proofs.lemmas.Bool.{ltb-true, leb-true, cond_both}
 use Rattle.volume.specs.Meanings.{Block, sound, lost, block_of}
 use Rattle.packet.specs.declared.fault.PacketFault.{PacketFault}

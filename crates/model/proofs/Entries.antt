@@ -1,15 +1,15 @@
 -- The pipes of the table stand in the area by rising start, apart, each number once: what keeps that.
-use Rattle.std.proofs.Common.{◌≡◌, ℕ, zero, suc, ◌+◌, ◌-◌, ◌/◌, ◌<◌, ◌≤◌, Bool, true, false, cond, not, ◌&&◌, ◌||◌, eqb, ltb, leb, ◌⊎◌, List, [], ◌∷◌, ◌++◌, length, Some, None, Option, sym, refl, ap, ◌∙◌, subst, inl, inr, ⊎_elim, arith}
+use Rattle.std.proofs.Common.{◌≡◌, ℕ, zero, suc, ◌+◌, ◌-◌, ◌<◌, ◌≤◌, Bool, true, false, cond, not, ◌&&◌, eqb, ltb, ◌⊎◌, List, [], ◌∷◌, ◌++◌, length, Some, None, Option, sym, refl, ap, ◌∙◌, subst, inl, inr, arith}
 use native.Mathlib.Nat.{sub_self, sub-zero}
 use Rattle.std.specs.List.{AllByRecursion}
 use Rattle.std.proofs.ByRecursion.{All-weaker, All-append}
-use Rattle.std.proofs.lemmas.Bool.{eqb-true, eqb-false, ltb-true, ne_eqb, eq-eqb, cond_both}
+use Rattle.std.proofs.lemmas.Bool.{eqb-true, eqb-false, ne_eqb, eq-eqb, cond_both}
 use Rattle.model.specs.declared.pipe.Pipe.{Pipe}
 use Rattle.model.specs.declared.pipe.Area.{Area}
 use Rattle.model.specs.declared.pipe.Gap.{Gap}
 use Rattle.model.specs.Sectors.{area_end}
 use Rattle.model.specs.Pipes.{is_writing, is_open, numbered, find, there, unused, lowest_unused, named, lower, closed_named, first_start, next_start, exchanged, inserted, new_pipe}
-use Rattle.model.specs.Gaps.{keeps, gap, gaps, most, no_gap, best_gap}
+use Rattle.model.specs.Gaps.{keeps, gaps, most, no_gap, best_gap}
 
 -- of no option at once None and Some
 some_none : {X : Type 0} {P : Type 0} (x : X) (o : Option X) → o ≡ None → o ≡ Some x → P

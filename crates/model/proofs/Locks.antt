@@ -1,8 +1,8 @@
 -- The law of locks.
-use Rattle.std.proofs.Common.{◌≡◌, ℕ, zero, suc, ◌+◌, ◌≤◌, Bool, true, false, cond, not, ◌||◌, eqb, ◌⊎◌, List, [], ◌∷◌, length, replicate, sym, refl, ap, ◌∙◌, subst, inl, inr, ⊎_elim, arith}
+use Rattle.std.proofs.Common.{◌≡◌, ℕ, zero, suc, ◌+◌, ◌≤◌, Bool, true, false, cond, not, eqb, ◌⊎◌, List, [], ◌∷◌, replicate, refl, ap, inl, inr, ⊎_elim, arith}
 use Rattle.std.proofs.lemmas.Bool.{eqb-true}
 use Rattle.packet.specs.Commands.{lock}
-use Rattle.model.specs.Answers.{semaphore, bare}
+use Rattle.model.specs.Answers.{semaphore}
 use Rattle.model.specs.Worlds.{World}
 use Rattle.model.specs.Semaphores.{blank, has, replaced, no_names}
 use Rattle.model.specs.Steps.{call, step}

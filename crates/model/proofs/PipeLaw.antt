@@ -1,5 +1,5 @@
 -- The law of pipes: what holds of the table, the area and the volume after every request.
-use Rattle.std.proofs.Common.{◌≡◌, ℕ, ◌+◌, ◌-◌, ◌<◌, ◌≤◌, Bool, true, false, cond, not, eqb, ltb, leb, ◌⊎◌, List, [], ◌∷◌, ◌++◌, Some, None, Option, sym, refl, ap, ◌∙◌, subst, inl, inr, ⊎_elim, append_assoc, arith}
+use Rattle.std.proofs.Common.{◌≡◌, ℕ, ◌+◌, ◌-◌, ◌<◌, ◌≤◌, true, not, eqb, ltb, List, [], ◌∷◌, ◌++◌, Some, None, Option, sym, refl, ap, ◌∙◌, subst, inl, inr, ⊎_elim, append_assoc, arith}
 use native.Mathlib.Nat.{sub_self}
 use Rattle.std.specs.List.{AllByRecursion}
 use Rattle.std.proofs.ByRecursion.{All-weaker}
@@ -10,10 +10,10 @@ use Rattle.model.specs.declared.pipe.Pipe.{Pipe}
 use Rattle.model.specs.declared.pipe.Area.{Area}
 use Rattle.model.specs.Worlds.{World}
 use Rattle.model.specs.Sectors.{area_end, within, stored, overwritten}
-use Rattle.model.specs.Pipes.{find, numbered, lowest_unused, closed_named, next_start, exchanged, inserted, new_pipe, spanning, accessed, closed}
+use Rattle.model.specs.Pipes.{lowest_unused, next_start, exchanged, inserted, new_pipe, spanning, accessed, closed}
 use Rattle.model.specs.Gaps.{best_gap}
 use Rattle.model.specs.Effects.{Effect, on_blocks, on_pipes, written, begun, handed_out, brought}
-use Rattle.model.specs.Laws.{standing, Passes, reads, writes}
+use Rattle.model.specs.Laws.{standing, Passes, reads}
 use Rattle.model.proofs.Changes.{Change, still, renames, lays, covers, begins, reopens, hands_out, brings, closes}
 use Rattle.model.proofs.Entries.{all_both, Rising, EachOnce, Lies, all_lie, rising-from, start_above, Found, found, found_number, all_found, absent, rising-exchanged, all_exchanged, once_same, once_less, all_inserted, once_inserted, lowest_absent, rising-inserted, Outside, end_outside, closed_found}
 use Rattle.model.proofs.Standing.{Apart, stored_here, standing_kept, standing_first, standing_last}

@@ -7,10 +7,10 @@ use Rattle.model.specs.declared.pipe.Area.{Area}
 use Rattle.model.specs.Answers.{Answer}
 use Rattle.model.specs.Worlds.{World}
 use Rattle.model.specs.Steps.{Request, step}
-use Rattle.model.specs.Runs.{Event, History, requests, Making, Run, start, then}
+use Rattle.model.specs.Runs.{History, Making, Run, start, then}
 use Rattle.model.specs.Effects.{Effect, effects}
 use Rattle.volume.proofs.Overwritten.{length-with_part, part_new, with_part_out}
-use Rattle.model.specs.Laws.{Passes, PartsKept, Laws, LawsHold, EveryList, Kept, Does}
+use Rattle.model.specs.Laws.{Passes, PartsKept, LawsHold, EveryList, Kept, Does}
 use Rattle.model.proofs.Changes.{Change, Stepped, changes}
 use Rattle.model.proofs.Locks.{Held, Counted, held, fresh, keep_held, law_of_locks}
 use Rattle.model.proofs.PipeLaw.{Piped, OrderlyIn, keep_piped}

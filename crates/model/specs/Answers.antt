@@ -1,5 +1,5 @@
 -- What the controller answers, and the bytes of each reply.
-use Rattle.std.specs.Prelude.{ℕ, Bool, true, false, List, [], ◌∷◌, replicate, ◌==◌}
+use Rattle.std.specs.Prelude.{ℕ, Bool, false, List, [], ◌∷◌, replicate, ◌==◌}
 
 pub data Answer : Type 0 where
   -- no reply: 1 to 4 for a packet, 6 for a call

@@ -1,11 +1,11 @@
 -- What each accepted request did, told by its command and its answer alone.
-use Rattle.std.specs.Prelude.{ℕ, Bool, true, false, cond, List, [], ◌∷◌, drop, Ok, Err, Result, slice_index}
+use Rattle.std.specs.Prelude.{ℕ, cond, List, [], ◌∷◌, drop, Ok, Err, Result, slice_index}
 use Rattle.packet.specs.declared.fault.PacketFault.{PacketFault}
 use Rattle.packet.specs.Commands.{Command, read, write, lock, unlock, initialize_semaphores, status, initialize_area, open_write, open_read, pipe_read, pipe_write, close, block_of, first_byte}
 use Rattle.packet.specs.Packets.{decoded}
 use Rattle.model.specs.Answers.{Answer, answers, reply_of}
 use Rattle.model.specs.Steps.{Request, packet, call}
-use Rattle.model.specs.Runs.{Event, History}
+use Rattle.model.specs.Runs.{History}
 
 pub data SemaphoreEffect : Type 0 where
   -- a Lock of the name answered 00h, an Unlock of it answered 80h, an Initialize answered 00h

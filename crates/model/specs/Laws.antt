@@ -1,7 +1,7 @@
 -- What holds after every list of requests from the making, of the history and of the world that it leads to.
 use Rattle.std.specs.Prelude.{◌≡◌, ℕ, zero, suc, ◌+◌, ◌-◌, ◌<◌, ◌≤◌, Bool, true, false, cond, ◌⊎◌, ◌↔◌, List, [], ◌∷◌, ◌++◌, length, Some, None, Option, ◌==◌, slice_index_or}
 use Rattle.std.specs.List.{AllByRecursion}
-use Rattle.volume.specs.Meanings.{Block, sound, lost, block_of}
+use Rattle.volume.specs.Meanings.{Block, sound, block_of}
 use Rattle.volume.specs.Parts.{part}
 use Rattle.packet.specs.Commands.{lock}
 use Rattle.model.specs.declared.pipe.Pipe.{Pipe}
@@ -9,8 +9,8 @@ use Rattle.model.specs.Answers.{Answer, semaphore}
 use Rattle.model.specs.Worlds.{World}
 use Rattle.model.specs.Sectors.{overwritten}
 use Rattle.model.specs.Steps.{Request, call, step}
-use Rattle.model.specs.Runs.{Event, History, requests, Making, Run}
-use Rattle.model.specs.Effects.{Effect, on_semaphores, on_blocks, on_pipes, nothing, effects, SemaphoreEffect, locked, unlocked, cleared, BlockEffect, written, covered, PipeEffect, begun, handed_out, brought}
+use Rattle.model.specs.Runs.{History, requests, Making, Run}
+use Rattle.model.specs.Effects.{Effect, on_semaphores, on_blocks, on_pipes, nothing, effects, SemaphoreEffect, locked, unlocked, cleared, written, covered, begun, handed_out, brought}
 
 -- how many pass the test
 abbrev pub count : (Effect → Bool) → List Effect → ℕ

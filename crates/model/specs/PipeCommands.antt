@@ -1,13 +1,13 @@
 -- The pipe commands: the questions in turn, and what each does.
-use Rattle.std.specs.Prelude.{ℕ, ◌+◌, Bool, true, false, cond, not, ◌&&◌, List, [], ◌∷◌, Some, None, Option, ◌==◌, nat_le, nat_lt}
+use Rattle.std.specs.Prelude.{ℕ, ◌+◌, Bool, not, ◌&&◌, List, [], ◌∷◌, Some, ◌==◌, nat_le, nat_lt}
 use Rattle.volume.specs.Meanings.{Block, sound, lost, block_of}
-use Rattle.model.specs.declared.pipe.Access.TheVariants.{Closed, Reading, Writing}
+use Rattle.model.specs.declared.pipe.Access.TheVariants.{Reading}
 use Rattle.model.specs.declared.pipe.Pipe.{Pipe}
 use Rattle.model.specs.declared.pipe.Area.{Area}
 use Rattle.model.specs.Answers.{Answer, bare, pipe, opened, block, no_block}
 use Rattle.model.specs.Worlds.{World, with_pipes, ask, given}
 use Rattle.model.specs.Sectors.{area_end, stored}
-use Rattle.model.specs.Pipes.{state_of, is_writing, is_reading, is_open, may_name, any, named, named_writing, closed_named, lowest_unused, next_start, find, exchanged, inserted, new_pipe, spanning, accessed, closed}
+use Rattle.model.specs.Pipes.{state_of, is_writing, is_reading, is_open, may_name, any, named, named_writing, closed_named, lowest_unused, next_start, exchanged, inserted, new_pipe, spanning, accessed, closed}
 use Rattle.model.specs.Gaps.{best_gap}
 
 -- Area Initialize: does the volume take writes? is the length at least 1 and the sum below 32,768? is the sum at most the count?

@@ -1,5 +1,5 @@
 -- Sector reads and writes: the questions in turn, and what is read and written.
-use Rattle.std.specs.Prelude.{ℕ, ◌+◌, Bool, true, false, cond, not, ◌&&◌, ◌||◌, List, [], ◌∷◌, Some, None, Option, ◌==◌, nat_le, nat_lt}
+use Rattle.std.specs.Prelude.{ℕ, ◌+◌, Bool, true, false, not, ◌&&◌, ◌||◌, List, [], ◌∷◌, Some, None, Option, ◌==◌, nat_le, nat_lt}
 use Rattle.volume.specs.Meanings.{Block, sound, lost, Meaning, block_of, with_bottom, with_block}
 use Rattle.volume.specs.Parts.{part, with_part}
 use Rattle.packet.specs.declared.command.Size.{Size}
@@ -7,7 +7,7 @@ use Rattle.packet.specs.Commands.{size_bytes, first_byte}
 use Rattle.packet.specs.Commands as sectors
 use Rattle.model.specs.declared.pipe.Area.{Area}
 use Rattle.model.specs.Answers.{Answer, bare, sector}
-use Rattle.model.specs.Worlds.{World, with_volume, ask}
+use Rattle.model.specs.Worlds.{World, with_volume}
 
 -- one past the last block of the area
 abbrev pub area_end : Area → ℕ

@@ -1,7 +1,7 @@
 -- The semaphore table: a name that stands in it is locked.
-use Rattle.std.specs.Prelude.{ℕ, Bool, true, false, cond, not, ◌||◌, List, [], ◌∷◌, replicate, ◌==◌}
+use Rattle.std.specs.Prelude.{ℕ, Bool, false, cond, not, ◌||◌, List, [], ◌∷◌, replicate, ◌==◌}
 use Rattle.model.specs.Answers.{Answer, bare, semaphore}
-use Rattle.model.specs.Worlds.{World, with_semaphores, ask}
+use Rattle.model.specs.Worlds.{World, with_semaphores}
 
 -- eight blanks, 20h: an unused entry
 abbrev pub blank : ℕ

@@ -1,5 +1,5 @@
 -- The tables as Status tells them: the semaphore names, the pipe names by number, the pipe pointers in the table's order.
-use Rattle.std.specs.Prelude.{ℕ, zero, suc, ◌+◌, ◌-◌, ◌*◌, ◌/◌, ◌%◌, Bool, true, false, cond, List, [], ◌∷◌, ◌++◌, length, replicate, Some, None, Option, ◌==◌}
+use Rattle.std.specs.Prelude.{ℕ, zero, suc, ◌-◌, ◌*◌, ◌/◌, ◌%◌, cond, List, [], ◌∷◌, ◌++◌, length, replicate, Some, None, Option, ◌==◌}
 use Rattle.packet.specs.Packets.{name_bytes}
 use Rattle.model.specs.declared.pipe.Pipe.{Pipe}
 use Rattle.model.specs.declared.pipe.Area.{Area}

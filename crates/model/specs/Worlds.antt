@@ -1,5 +1,5 @@
 -- The controller's tables and its volume, and questions in turn.
-use Rattle.std.specs.Prelude.{ℕ, Bool, true, false, cond, List, [], ◌∷◌, Some, None, Option}
+use Rattle.std.specs.Prelude.{ℕ, Bool, cond, List, [], ◌∷◌, Some, None, Option}
 use Rattle.volume.specs.Meanings.{Meaning}
 use Rattle.model.specs.declared.pipe.Pipe.{Pipe}
 use Rattle.model.specs.declared.pipe.Area.{Area}

@@ -1,15 +1,15 @@
 -- A packet that says a command is that command's packet, but for its unused bytes.
-use Rattle.std.proofs.Common.{◌≡◌, ℕ, ◌+◌, ◌-◌, ◌*◌, ◌/◌, ◌%◌, ◌<◌, ◌≤◌, Bool, true, false, cond, ◌&&◌, eqb, leb, ◌⊎◌, List, [], ◌∷◌, ◌++◌, map, length, get_or, take, drop, replicate, Ok, Err, Result, sym, refl, ap, ◌∙◌, subst, inl, inr, ⊎_elim, arith}
+use Rattle.std.proofs.Common.{◌≡◌, ℕ, ◌+◌, ◌-◌, ◌*◌, ◌/◌, ◌%◌, ◌<◌, ◌≤◌, Bool, true, false, cond, eqb, leb, ◌⊎◌, List, [], ◌∷◌, ◌++◌, map, length, get_or, take, drop, replicate, Ok, Err, Result, sym, refl, ap, ◌∙◌, subst, inl, inr, ⊎_elim, arith}
 use Rattle.std.specs.List.{range_with_len}
 use Rattle.std.proofs.lemmas.List.FromFn.{fill_by_all}
 use Rattle.std.proofs.lemmas.List.{append-nil, take-append-drop, take_all, drop_all, length-take, length-drop, get_or-take}
-use Rattle.std.proofs.lemmas.Bool.{leb-true, le-leb, eqb-true, eq-eqb, and_from}
+use Rattle.std.proofs.lemmas.Bool.{le-leb, eqb-true, eq-eqb, and_from}
 use Rattle.packet.specs.declared.command.Size.{Size}
 use Rattle.packet.specs.declared.command.Size.TheVariants.{Bytes128, Bytes256, Bytes256Again, Bytes512}
 use Rattle.packet.specs.declared.fault.PacketFault.{PacketFault}
 use Rattle.packet.specs.declared.fault.PacketFault.TheVariants.{Empty, NoModifier, Length, Illegal}
 use Rattle.packet.specs.Commands.{Command, read, write, lock, unlock, initialize_semaphores, status, initialize_area, open_write, open_read, pipe_read, pipe_write, close, size_bytes}
-use Rattle.packet.specs.Packets.{byte, drive_of, sector_of, name_of, word_at, exact, read_packet, write_packet, modified, semaphore_packet, status_packet, pipe_write_packet, table_packet, pipe_packet, by_code, decoded, read_code, write_code, address, name_bytes, word_bytes, packet_of, unused, cleared, in_range, Said}
+use Rattle.packet.specs.Packets.{byte, drive_of, sector_of, name_of, word_at, exact, read_packet, write_packet, modified, semaphore_packet, status_packet, pipe_write_packet, table_packet, pipe_packet, decoded, read_code, write_code, address, name_bytes, word_bytes, packet_of, unused, cleared, in_range, Said}
 
 -- the first n bytes one by one, and the rest
 split : (n : ℕ) (p : List ℕ) → n ≤ length p → p ≡ map (λ i. get_or p i 0) (range_with_len 0 n) ++ drop n p

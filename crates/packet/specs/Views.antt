@@ -1,5 +1,5 @@
 -- A command of the code, with the bytes that it lends in place of the reference to them.
-use Rattle.std.specs.Prelude.{ℕ, Ok, Err, Result}
+use Rattle.std.specs.Prelude.{Ok, Err, Result}
 use Rattle.packet.specs.declared.command.Command.{Command as Coded}
 use Rattle.packet.specs.declared.command.Command.TheVariants as code
 use Rattle.packet.specs.declared.fault.PacketFault.{PacketFault}

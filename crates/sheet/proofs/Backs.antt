@@ -2,7 +2,7 @@
 use Rattle.std.proofs.Common.{◌≡◌, ℕ, ◌+◌, ◌<◌, ◌≤◌, cond, eqb, List, [], ◌∷◌, ◌++◌, length, get_or, drop, sym, refl, ap, ◌∙◌, subst, ⊎_elim, append_assoc, append-nil, add-zero, add_assoc, zero-add, arith}
 use Rattle.std.proofs.lemmas.List.{at_drop_more, at_drop_all}
 use Rattle.std.proofs.lemmas.Bool.{eq-eqb, ne_eqb, cases_eq}
-use Rattle.sheet.specs.Records.{mark_of, from, front, plain, inside, closed, read, behind}
+use Rattle.sheet.specs.Records.{mark_of, from, front, plain, inside, closed, read}
 use Rattle.sheet.proofs.Places.{inside-byte, plain_byte, plain_end, closed_end, front-plain}
 use Rattle.sheet.specs.Steps.{ended}
 use Rattle.sheet.specs.declared.fields.Mark.TheVariants.{Byte}

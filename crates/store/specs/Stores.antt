@@ -1,5 +1,5 @@
 -- What a store means, which bytes it has, and where a block stands in them.
-use Rattle.std.specs.Prelude.{◌≡◌, ℕ, ◌*◌, true, false, cond, List, length, set, Some, None, vec_items, Option, nat_lt, slice_set}
+use Rattle.std.specs.Prelude.{◌≡◌, ℕ, ◌*◌, true, false, cond, List, length, Some, None, vec_items, Option, nat_lt, slice_set}
 use Rattle.volume.specs.Meanings.{Meaning, Sound}
 use Rattle.volume.specs.Parts.{with_part}
 use Rattle.image.specs.Images.{header_of, block_byte_of, map_byte_of}

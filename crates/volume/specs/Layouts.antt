@@ -1,5 +1,5 @@
 -- What a placement means, how one stands on another, and how one stands on a volume.
-use Rattle.std.specs.Prelude.{◌≡◌, ℕ, ◌<◌, ◌≤◌, Bool, true, false, cond, Some, None, Option, MatchOption, ◌≢◌, nat_le, nat_lt}
+use Rattle.std.specs.Prelude.{◌≡◌, ℕ, ◌<◌, ◌≤◌, cond, Some, None, Option, MatchOption, ◌≢◌, nat_le, nat_lt}
 use Rattle.volume.specs.Meanings.{Meaning}
 
 -- Each block below the count has a place below the total.

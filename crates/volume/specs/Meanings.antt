@@ -1,5 +1,5 @@
 -- What a volume means, and what a read and a write of block n answer and leave.
-use Rattle.std.specs.Prelude.{◌≡◌, ℕ, ◌<◌, ◌≤◌, Bool, true, false, cond, List, length, ◌==◌, nat_lt}
+use Rattle.std.specs.Prelude.{◌≡◌, ℕ, ◌<◌, ◌≤◌, Bool, cond, List, length, ◌==◌, nat_lt}
 use Rattle.volume.specs.declared.answers.ReadAnswer.{ReadAnswer}
 use Rattle.volume.specs.declared.answers.ReadAnswer.TheVariants as reads
 use Rattle.volume.specs.declared.answers.WriteAnswer.{WriteAnswer}

@@ -1,8 +1,7 @@
 -- What each row of the sessions' table says.
-use Rattle.std.specs.Prelude.{◌≡◌, ℕ, true, List, [], ◌∷◌}
+use Rattle.std.specs.Prelude.{◌≡◌, true, List, [], ◌∷◌}
 use Rattle.packet.specs.Packets.{byte}
 use Rattle.model.specs.Answers.{answers, reply_of}
-use Rattle.worked.specs.declared.session.Session.{Session}
 use Rattle.worked.specs.declared.session.Session.TheVariants.{Area10, Area9, TwoOfAName, Locks, FullTable, Blocks}
 use Rattle.worked.specs.declared.session.SessionRow.{SessionRow}
 use Rattle.worked.specs.declared.session.SessionRow.TheVariants.{Answer, Byte, Pointer}

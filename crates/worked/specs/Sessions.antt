@@ -1,6 +1,6 @@
 -- The example sessions: the requests of each, and what each request is answered and leaves.
-use Rattle.std.specs.Prelude.{ℕ, zero, suc, ◌+◌, ◌*◌, Bool, true, false, cond, List, [], ◌∷◌, ◌++◌, map, replicate, None, ◌==◌}
-use Rattle.volume.specs.Meanings.{Meaning, Block, sound, lost}
+use Rattle.std.specs.Prelude.{ℕ, zero, suc, ◌*◌, true, cond, List, [], ◌∷◌, ◌++◌, map, replicate, None, ◌==◌}
+use Rattle.volume.specs.Meanings.{sound, lost}
 use Rattle.volume.specs.Parts.{part}
 use Rattle.packet.specs.declared.command.Size.TheVariants.{Bytes128, Bytes512}
 use Rattle.packet.specs.Commands.{Command, read, write, lock, unlock, initialize_area, open_write, open_read, pipe_read, pipe_write, close}

@@ -1,9 +1,8 @@
-use Rattle.std.proofs.Common.{◌≡◌, ℕ, ◌-◌, ◌≤◌, true, List, length, take, drop, sym, ap, ◌∙◌, arith, length-drop, rules}
+use Rattle.std.proofs.Common.{ℕ, ◌-◌, ◌≤◌, List, length, take, drop, ap, ◌∙◌, arith, length-drop, rules}
 use Rattle.std.proofs.lemmas.List.{take_rest}
 use Rattle.std.proofs.lemmas.Bool.{cond-true}
 use Rattle.build.specs.Builds.{front}
 use Rattle.model.specs.Tables.{tables_asked}
-use Rattle.status.specs.Asked.{askable}
 use Rattle.controller.proofs.Told.{askable_here, behind_first, one_byte_more, never_none, few-put}
 use Rattle.controller.proofs.reply.reply_tables.Goals as goal
 

@@ -1,4 +1,4 @@
-use Rattle.std.proofs.Common.{◌≡◌, ℕ, ◌+◌, ◌*◌, List, [], ◌∷◌, get_or, refl, ap, ◌∙◌, arith}
+use Rattle.std.proofs.Common.{ℕ, ◌+◌, ◌*◌, List, [], ◌∷◌, get_or, refl, ap, ◌∙◌, arith}
 use Rattle.image.specs.Images.{word}
 use Rattle.image.proofs.News.{word_of_bytes, new_image}
 use Rattle.image.proofs.make.new_header.Goals as goal

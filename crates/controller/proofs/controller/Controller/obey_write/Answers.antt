@@ -1,5 +1,4 @@
-use Rattle.std.proofs.Common.{◌≡◌, ℕ, sym, ap, ◌∙◌, subst, arith}
-use Rattle.volume.specs.Meanings.{Meaning}
+use Rattle.std.proofs.Common.{ℕ, sym, ap, ◌∙◌, arith}
 use Rattle.model.specs.Sectors.{within, stored}
 use Rattle.controller.specs.Worlds.{world_of}
 use Rattle.controller.proofs.Writes.{wrote_whole}

@@ -1,4 +1,4 @@
-use Rattle.std.proofs.Common.{◌≡◌, ℕ, List, sym, ap, ◌∙◌}
+use Rattle.std.proofs.Common.{ℕ, List, sym, ap, ◌∙◌}
 use Rattle.controller.specs.Answers.{read_answer}
 use Rattle.controller.specs.Worlds.{world_of}
 use Rattle.controller.proofs.Served.{performed, same-part}
