@@ -235,7 +235,10 @@ impl<'a> Play<'a> {
 
     fn play(&mut self, rt: &HostRuntime) -> Result<(), Stop> {
         if self.name.is_empty() {
-            return self.obey_all(rt, &mut BufReader::new(rt.alloc(), rt.stdin())?);
+            return match BufReader::new(rt.alloc(), rt.stdin()) {
+                Ok(mut input) => self.obey_all(rt, &mut input),
+                Err(_) => Err(Stop::Memory),
+            };
         }
         let bytes = bytes_of(rt, self.name)?;
         let mut text = bytes.as_slice();
