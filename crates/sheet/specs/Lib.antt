@@ -1,4 +1,5 @@
+pub mod Faults
 pub mod Records
 pub mod Rows
-pub mod Steps
 pub mod Readers
+pub mod Steps

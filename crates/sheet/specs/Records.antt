@@ -2,8 +2,13 @@
 use Rattle.std.specs.Prelude.{◌≡◌, ℕ, ◌+◌, cond, List, [], ◌∷◌, ◌++◌, drop, ◌==◌}
 use Rattle.sheet.specs.declared.fault.Fault.{Fault}
 use Rattle.sheet.specs.declared.fault.Fault.TheVariants.{Memory, Unclosed, Behind}
-use Rattle.sheet.specs.declared.fields.Mark.{Mark}
-use Rattle.sheet.specs.declared.fields.Mark.TheVariants.{Comma, Line, End, Byte}
+
+pub data Mark : Type 0 where
+  Comma : Mark
+  -- of so many bytes
+  Line : ℕ → Mark
+  End : Mark
+  Byte : Mark
 
 -- a CR with this text behind it: a line end if an LF follows
 abbrev pub returned : List ℕ → Mark

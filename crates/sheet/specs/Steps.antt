@@ -1,41 +1,35 @@
 -- What the parts of the reader give, each by how it stands to the outcome of the text.
-use Rattle.std.specs.Prelude.{◌≡◌, ℕ, ◌+◌, ◌<◌, ◌≤◌, List, [], ◌∷◌, ◌++◌, length, drop, slice_index_or}
-use Rattle.sheet.specs.declared.fields.Mark.TheVariants.{Byte}
-use Rattle.sheet.specs.declared.fields.Stop.{Stop}
-use Rattle.sheet.specs.Records.{Outcome, mark_of, parted, from, record_of, front, plain, inside, closed, read, behind}
-
--- a field without quotes, of which `before` is read at i, goes on to j
-pub record PlainTo (text : List ℕ) (i : ℕ) (before : List ℕ) (j : ℕ) (after : List ℕ) : Type 0 where
-  pub forward : i ≤ j
-  pub within : j ≤ length text
-  pub same : (fields : List (List ℕ)) (n : ℕ) → from plain fields before n (drop i text) ≡ from plain fields after n (drop j text)
-
--- from i, behind n line ends, to the stop: no more line ends than bytes
-pub record Onward (text : List ℕ) (i n : ℕ) (stop : Stop) : Type 0 where
-  pub forward : i ≤ stop.at
-  pub within : stop.at ≤ length text
-  pub counted : stop.lines + i ≤ n + stop.at
-
--- the quote that holds what stands at i is closed before the stop
-pub record QuotedTo (text : List ℕ) (i : ℕ) (before : List ℕ) (n : ℕ) (stop : Stop) (after : List ℕ) : Type 0 where
-  pub onward : Onward text i n stop
-  pub stops : slice_index_or text stop.at 0 ≡ 34 → ⊥
-  pub same :
-      (opened : ℕ) (fields : List (List ℕ)) →
-      from (inside opened) fields before n (drop i text) ≡ from (closed opened) fields after stop.lines (drop stop.at text)
+use Rattle.std.specs.Prelude.{◌≡◌, ◌≢◌, ℕ, ◌+◌, ◌<◌, ◌≤◌, List, [], ◌∷◌, ◌++◌, length, drop, slice_index}
+use Rattle.sheet.specs.declared.fault.Fault.{Fault}
+use Rattle.sheet.specs.declared.reader.Reader.{Reader}
+use Rattle.sheet.specs.Records.{Outcome, Byte, Place, mark_of, parted, from, record_of, front, read, behind, Faults}
+use Rattle.sheet.specs.Readers.{text_left, lines_passed}
 
 -- the outcome behind whole fields, at what parts or ends them
 abbrev pub ended : List (List ℕ) → ℕ → List ℕ → Outcome
 ended fields n text = parted (mark_of text) fields n text (from front fields [] n (drop 1 text)) (behind (n + 1))
 
--- the field at i ends at the stop
-pub record FieldTo (text : List ℕ) (i n : ℕ) (stop : Stop) (field : List ℕ) : Type 0 where
-  pub onward : Onward text i n stop
-  pub stops : mark_of (drop stop.at text) ≡ Byte → ⊥
-  pub reads : (fields : List (List ℕ)) → from front fields [] n (drop i text) ≡ ended (fields ++ field ∷ []) stop.lines (drop stop.at text)
+-- inside a quote: no text is left, or it begins with the closing quote
+abbrev pub EndsQuote : List ℕ → Type 0
+EndsQuote text = (0 < length text → slice_index text 0 ≡ 34) × (slice_index text 1 ≢ 34)
 
--- the text behind n line ends begins with a record of these fields; the rest stands behind it, and behind n' line ends
-pub record RecordTo (text : List ℕ) (n : ℕ) (fields : List (List ℕ)) (n' : ℕ) (rest : List ℕ) : Type 0 where
-  pub reads : record_of n text ≡ read fields n' rest
-  pub counted : n' + length rest ≤ n + length text
-  pub shorter : 0 < length text → length rest < length text
+-- the outcome of what a reader stands before, from such a place on, behind whole fields and a part of a field
+abbrev pub from_reader : Place → List (List ℕ) → List ℕ → Reader → Outcome
+from_reader place fields field r = from place fields field (lines_passed r) (text_left r)
+
+-- from such a place on, the field ends where the new reader stands
+pub record FieldTo (place : Place) (old : Reader) (field : List ℕ) (new : Reader) : Type 0 where
+  pub within : length (text_left new) ≤ length (text_left old)
+  pub stops : mark_of (text_left new) ≢ Byte
+  pub reads : (fields : List (List ℕ)) → from_reader place fields [] old ≡ ended (fields ++ field ∷ []) (lines_passed new) (text_left new)
+
+abbrev pub FieldFaults : Place → Reader → Fault → Type 0
+FieldFaults place r fault = (fields : List (List ℕ)) → Faults fault (from_reader place fields [] r)
+
+-- the old reader stands before a record of these fields, and the new one behind it
+pub record RecordTo (old : Reader) (fields : List (List ℕ)) (new : Reader) : Type 0 where
+  pub reads : record_of (lines_passed old) (text_left old) ≡ read fields (lines_passed new) (text_left new)
+  pub shorter : 0 < length (text_left old) → length (text_left new) < length (text_left old)
+
+abbrev pub RecordFaults : Reader → Fault → Type 0
+RecordFaults r fault = Faults fault (record_of (lines_passed r) (text_left r))
