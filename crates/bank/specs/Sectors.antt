@@ -2,22 +2,23 @@
 use Rattle.std.specs.Prelude.{ℕ, ◌+◌, ◌*◌, ◌/◌, min, Bool, true, false, cond, List, length, drop, Some, None, Option, ◌==◌, nat_lt}
 use Rattle.volume.specs.Parts.{part, with_part}
 use Rattle.volume.specs.Meanings.{Meaning, Block, sound, lost}
+use Rattle.bank.specs.declared.held.Held.{Held}
 
 -- The held sector
 
 -- where the held sector, if any, ends
-abbrev pub held_end : Option ℕ → ℕ
+abbrev pub held_end : Option Held → ℕ
 held_end None = 0
-held_end (Some sector) = 1024 * sector + 1024
+held_end (Some held) = 1024 * held.sector + 1024
 
-abbrev pub is_held : Option ℕ → ℕ → Bool
+abbrev pub is_held : Option Held → ℕ → Bool
 is_held None sector = false
-is_held (Some held) sector = held == sector
+is_held (Some held) sector = held.sector == sector
 
 -- the bytes with the held sector, if any, put back
-abbrev pub settled : List ℕ → Option ℕ → List ℕ → List ℕ
-settled bytes None held = bytes
-settled bytes (Some sector) held = with_part bytes (1024 * sector) held
+abbrev pub settled : List ℕ → Option Held → List ℕ
+settled bytes None = bytes
+settled bytes (Some held) = with_part bytes (1024 * held.sector) held.bytes
 
 -- Blocks
 
@@ -35,6 +36,10 @@ overwritten bytes n block = with_part bytes (512 * n) block
 -- the bytes after a write of block n
 abbrev pub bank_with : List ℕ → ℕ → List ℕ → List ℕ
 bank_with bytes n block = cond (nat_lt n (block_count (length bytes))) (overwritten bytes n block) bytes
+
+-- the first byte of block n
+abbrev pub bank_byte : List ℕ → ℕ → Option ℕ
+bank_byte bytes n = cond (nat_lt n (block_count (length bytes))) (Some (512 * n)) None
 
 -- what lies past the last block: no block holds it
 abbrev pub beyond : List ℕ → List ℕ

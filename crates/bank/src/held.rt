@@ -1,50 +1,58 @@
-// The held sector of a Bank.
-ghost use Rattle.std.specs.Prelude.{◌≡◌, ◌+◌, ◌*◌, ◌<◌, ◌≤◌, length, Some};
-ghost use Rattle.volume.specs.Parts.{part};
-ghost use Rattle.bank.specs.Sectors.{is_held, overwritten};
-ghost use Rattle.bank.specs.Banks.{all_bytes};
+// The sector that a Bank holds.
+ghost use Rattle.std.specs.Prelude.{◌≡◌, length};
 
-use crate::Bank;
-use crate::parts::{get_part, put_part};
+#[derive(Drop)]
+pub(crate) struct Held {
+    pub(crate) sector: u32,
+    pub(crate) bytes: [u8; 1024],
+    ghost full: { length bytes ≡ 1024 },
+}
 
-impl Bank {
-    pub(crate) fn holds(&self, sector: u32) -> bool
-        ensures { result ≡ is_held self.now.at sector }
+impl Held {
+    ghost use Rattle.std.specs.Prelude.{◌+◌, ◌*◌, ◌≤◌, ◌<◌};
+    ghost use Rattle.volume.specs.Parts.{part, with_part};
+    ghost use Rattle.bank.specs.Sectors.{block_bytes, overwritten};
+
+    // A copy of a sector of the bytes. Here and below, the sector or half is within the bytes: each caller works the number out, so no value
+    // has it as a fact of its own.
+    pub(crate) fn copy_of(bytes: &[u8], sector: u32) -> Held
+        requires { 1024 * sector + 1024 ≤ length bytes.now }
+        ensures sector { result.sector ≡ sector }
+        ensures bytes { result.bytes ≡ part bytes.now (1024 * sector) 1024 }
     {
-        self.at == Some(sector)
-    }
-
-    // Puts the held sector back, and copies another one from the bytes to be the held one.
-    fn fetch(&mut self, sector: u32)
-        requires { 1024 * sector + 1024 ≤ length self.old.bytes.items }
-        ensures at { self.new.at ≡ Some sector }
-        ensures bytes { self.new.bytes.items ≡ all_bytes self.old }
-        ensures held { self.new.held ≡ part self.new.bytes.items (1024 * sector) (length self.new.held) }
-    {
-        self.put_back();
         let from = 1024 * sector as usize;
-        get_part(self.bytes.as_slice(), from, &mut self.held);
-        self.at = Some(sector);
-    }
-
-    // Makes a sector the held one, and changes no block.
-    pub(crate) fn hold(&mut self, sector: u32)
-        requires { 1024 * sector + 1024 ≤ length self.old.bytes.items }
-        ensures at { self.new.at ≡ Some sector }
-        ensures all { all_bytes self.new ≡ all_bytes self.old }
-    {
-        if !self.holds(sector) {
-            self.fetch(sector);
+        let mut held = [0; 1024];
+        held.copy_from_slice(&bytes[from..from + 1024]);
+        Held {
+            sector,
+            bytes: held,
         }
     }
 
-    // Lays a block on a half of the held sector.
+    // Puts the sector in its place in the bytes.
+    pub(crate) fn put_into(&self, bytes: &mut [u8])
+        requires { 1024 * self.now.sector + 1024 ≤ length bytes.old }
+        ensures { bytes.new ≡ with_part bytes.old (1024 * self.now.sector) self.now.bytes }
+    {
+        let from = 1024 * self.sector as usize;
+        bytes[from..from + 1024].copy_from_slice(&self.bytes);
+    }
+
+    pub(crate) fn half(&self, half: u32) -> &[u8]
+        requires { half < 2 }
+        ensures { result.now ≡ block_bytes self.now.bytes half }
+    {
+        let from = 512 * half as usize;
+        &self.bytes[from..from + 512]
+    }
+
+    // Lays a block on a half.
     pub(crate) fn lay_half(&mut self, half: u32, block: &[u8; 512])
         requires { half < 2 }
-        ensures held { self.new.held ≡ overwritten self.old.held half block.now }
-        ensures at { self.new.at ≡ self.old.at }
-        ensures bytes { self.new.bytes ≡ self.old.bytes }
+        ensures bytes { self.new.bytes ≡ overwritten self.old.bytes half block.now }
+        ensures sector { self.new.sector ≡ self.old.sector }
     {
-        put_part(&mut self.held, 512 * half as usize, block);
+        let from = 512 * half as usize;
+        self.bytes[from..from + 512].copy_from_slice(block);
     }
 }

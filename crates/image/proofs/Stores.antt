@@ -1,13 +1,14 @@
 -- What a stored block changes of an image: that block, and nothing else.
-use Rattle.std.proofs.Common.{◌≡◌, ℕ, ◌+◌, ◌*◌, ◌<◌, ◌≤◌, Bool, cond, eqb, ltb, ◌≢◌, ◌⊎◌, List, length, get_or, set, sym, ap, ◌∙◌, inl, inr, ⊎_elim, arith}
+use Rattle.std.proofs.Common.{◌≡◌, ℕ, ◌+◌, ◌*◌, ◌<◌, ◌≤◌, true, ◌≢◌, ◌⊎◌, List, length, get_or, set, sym, ap, ◌∙◌, inl, inr, ⊎_elim, arith}
 use mathlib.Core.Path.{fun_ext}
 use Rattle.std.proofs.lemmas.List.{length-set, get_or-set_same, get_or-set_other}
-use Rattle.std.proofs.lemmas.Bool.{cond-true, cond-false, lt-ltb, le-ltb, eq-eqb, ne_eqb, cases_eq, cases_lt}
+use Rattle.std.proofs.lemmas.Bool.{cond-true, lt-ltb, cases_lt}
+use Rattle.std.proofs.lemmas.Bool.Decides.{nat_tests}
 use Rattle.volume.proofs.Overwritten.{same_parts, length-with_part, with_part_out, part_new}
 use Rattle.volume.specs.Parts.{part}
-use Rattle.volume.specs.Meanings.{sound, lost, with_block, with_bottom}
+use Rattle.volume.specs.Meanings.{with_block, written}
 use Rattle.image.specs.Images.{header_of, block_at, image_meaning, stored, Fits}
-use Rattle.image.specs.Heads.{header_same}
+use Rattle.image.specs.Heads.{header_same, own_fits}
 use Rattle.image.specs.declared.header.Header.{Header}
 
 module _ (h : Header) (bs d : List ℕ) (i : ℕ) (fits : Fits h (length bs)) (within : i < h.count) (block : length d ≡ 512) where
@@ -34,11 +35,14 @@ module _ (h : Header) (bs d : List ℕ) (i : ℕ) (fits : Fits h (length bs)) (w
       let m : 16 ≤ h.map = fits.map_past (omega arith) in
       byte_kept k 0 (inl (omega arith)) (λ e. omega arith)
 
-  own : block_at h (stored h bs i d) i ≡ sound d
-  own =
-      let new : part (stored h bs i d) (h.blocks + 512 * i) 512 ≡ d = ap (part (stored h bs i d) (h.blocks + 512 * i)) (sym block) ∙ part_new (set bs (h.map + i) 0) (h.blocks + 512 * i) d room in
-      let zero : get_or (stored h bs i d) (h.map + i) 0 ≡ 0 = with_part_out (set bs (h.map + i) 0) (h.blocks + 512 * i) d room (h.map + i) 0 (side i i within within) ∙ get_or-set_same bs (h.map + i) 0 0 (omega arith) in
-      cond-true _ _ _ (lt-ltb i h.count within) ∙ cond-true _ _ _ (eq-eqb _ 0 zero) ∙ ap sound new
+  own_part : part (stored h bs i d) (h.blocks + 512 * i) 512 ≡ d
+  own_part = ap (part (stored h bs i d) (h.blocks + 512 * i)) (sym block) ∙ part_new (set bs (h.map + i) 0) (h.blocks + 512 * i) d room
+
+  own_byte : get_or (stored h bs i d) (h.map + i) 0 ≡ 0
+  own_byte = with_part_out (set bs (h.map + i) 0) (h.blocks + 512 * i) d room (h.map + i) 0 (side i i within within) ∙ get_or-set_same bs (h.map + i) 0 0 (omega arith)
+
+  other_byte : (k : ℕ) → k ≢ i → k < h.count → get_or (stored h bs i d) (h.map + k) 0 ≡ get_or bs (h.map + k) 0
+  other_byte k ne lt = byte_kept (h.map + k) 0 (side i k within lt) (λ e. ne (omega arith))
 
   other_part : (k : ℕ) → k ≢ i → k < h.count → part (stored h bs i d) (h.blocks + 512 * k) 512 ≡ part bs (h.blocks + 512 * k) 512
   other_part k ne lt =
@@ -48,29 +52,18 @@ module _ (h : Header) (bs d : List ℕ) (i : ℕ) (fits : Fits h (length bs)) (w
       let off : (h.blocks + 512 * k + j < h.blocks + 512 * i) ⊎ (h.blocks + 512 * i + length d ≤ h.blocks + 512 * k + j) = ⊎_elim (λ u. inl (omega arith)) (λ u. inr (omega (arith, ne))) (cases_lt k i) in
       byte_kept (h.blocks + 512 * k + j) z off (λ e. ⊎_elim (λ u. omega arith) (λ u. omega arith) (side k i lt within)))
 
-  other : (k : ℕ) → k ≢ i → block_at h (stored h bs i d) k ≡ block_at h bs k
-  other k ne = ⊎_elim low high (cases_lt k h.count) where
-    low : k < h.count → block_at h (stored h bs i d) k ≡ block_at h bs k
-    low lt =
-        let byte : get_or (stored h bs i d) (h.map + k) 0 ≡ get_or bs (h.map + k) 0 = byte_kept (h.map + k) 0 (side i k within lt) (λ e. ne (omega arith)) in
-        ap (λ (b : ℕ). cond (ltb k h.count) (cond (eqb b 0) (sound (part (stored h bs i d) (h.blocks + 512 * k) 512)) lost) lost) byte
-        ∙ ap (λ (x : List ℕ). cond (ltb k h.count) (cond (eqb (get_or bs (h.map + k) 0) 0) (sound x) lost) lost) (other_part k ne lt)
-
-    high : h.count ≤ k → block_at h (stored h bs i d) k ≡ block_at h bs k
-    high le = cond-false _ _ _ (le-ltb k h.count le) ∙ sym (cond-false _ _ _ (le-ltb k h.count le))
-
   pub blocks-stored : (k : ℕ) → block_at h (stored h bs i d) k ≡ with_block (block_at h bs) i d k
-  blocks-stored k = ⊎_elim
-      (λ e. ap (block_at h (stored h bs i d)) e ∙ own ∙ sym (cond-true _ _ _ (eq-eqb k i e)))
-      (λ ne. other k ne ∙ sym (cond-false _ _ _ (ne_eqb k i ne)))
-      (cases_eq k i)
+  blocks-stored k = grind (arith, nat_tests, own_part, own_byte, other_byte, other_part)
 
-module _ (bs d : List ℕ) (i : ℕ) (fits : Fits (header_of bs) (length bs)) (within : i < (header_of bs).count) (block : length d ≡ 512) where
-  pub header_stored : header_of (stored (header_of bs) bs i d) ≡ header_of bs
-  header_stored = header_same (stored (header_of bs) bs i d) bs (length-stored (header_of bs) bs d i fits within block) (header_kept (header_of bs) bs d i fits within block)
+-- bytes that are an image with a block stored have its header, and mean the image after the write
+module _ (h : Header) (bs d cs : List ℕ) (i : ℕ) (own : h ≡ header_of bs) (within : i < h.count) (block : length d ≡ 512) (is : cs ≡ stored h bs i d) where
+  fits : Fits h (length bs)
+  fits = own_fits h bs own
 
-  pub meaning_stored : (writable : Bool) → image_meaning writable (stored (header_of bs) bs i d) ≡ with_bottom (image_meaning writable bs) (with_block (block_at (header_of bs) bs) i d)
-  meaning_stored writable =
-      let cs = stored (header_of bs) bs i d in
-      ap (λ (h : Header). record { count = h.count; writable = writable; place = λ n. n; bottom = block_at h cs }) header_stored
-      ∙ ap (with_bottom (image_meaning writable bs)) (fun_ext (blocks-stored (header_of bs) bs d i fits within block))
+  pub header-stored : h ≡ header_of cs
+  header-stored = rw (own, is) (sym (header_same (stored h bs i d) bs (length-stored h bs d i fits within block) (header_kept h bs d i fits within block)))
+
+  pub meaning-stored : image_meaning true cs ≡ written (image_meaning true bs) i d
+  meaning-stored =
+      let blocks : block_at h cs ≡ with_block (block_at h bs) i d = ap (block_at h) is ∙ fun_ext (blocks-stored h bs d i fits within block) in
+      rw (← header-stored, ← own, cond-true _ _ _ (lt-ltb i h.count within), blocks)

@@ -1,63 +1,38 @@
 -- Which places runs count out, and what one more place does to them.
-use Rattle.std.proofs.Common.{◌≡◌, ℕ, zero, suc, ◌+◌, ◌-◌, ◌<◌, ◌≤◌, ◌⊎◌, List, [], ◌∷◌, ◌++◌, map, length, get_or, take, set, Some, sym, refl, ap, ◌∙◌, subst, inl, inr, ⊎_elim, append_assoc, arith, length-append}
-use Rattle.std.specs.List.{range_with_len, ContainsAt}
-use Rattle.std.proofs.lemmas.List.{get_or_append_left, get_or-append_right, get_or_default, flat_map_more, length-set, map-id, take_all, take_more, take_more_set}
-use Rattle.std.proofs.lemmas.List.FromFn.{length-range_with_len, get_or-range_with_len, length-map-range_with_len, map-range_with_len_more}
-use Rattle.std.proofs.ByRecursion.{has_append_left, has_append_right}
-use Rattle.std.proofs.lemmas.Bool.{cases_lt}
+use Rattle.std.proofs.Common.{◌≡◌, ℕ, zero, suc, ◌+◌, ◌-◌, ◌<◌, ◌≤◌, ◌⊎◌, List, [], ◌∷◌, ◌++◌, map, length, get_or, take, set, Some, sym, refl, ap, ◌∙◌, subst, inl, inr, append_assoc, arith, length-append}
+use Rattle.std.specs.List.{range_with_len, Contains}
+use Rattle.std.proofs.lemmas.List.{get_or_default, flat_map_more, length-set, map-id, take_all, take_more, take_more_set}
+use Rattle.std.proofs.lemmas.List.FromFn.{length-range_with_len, get_or-range_with_len, map-range_with_len_more}
+use Rattle.std.proofs.lemmas.List.Elements.{Contains-append_left, Contains-append_right}
+use Rattle.std.proofs.lemmas.Bool.Decides.{nat_tests}
 use Rattle.volume.specs.Layouts.{Layout, place_of}
 use Rattle.pile.specs.declared.runs.Run.{Run}
 use Rattle.pile.specs.Runs.{places_of, spelled, InRun, Stops, Longest, Placed}
-use Rattle.pile.proofs.Rising.{placed}
 
 -- Which places are among them
 
-has_append_cases : (xs ys : List ℕ) (x : ℕ) → ContainsAt (xs ++ ys) x → ContainsAt xs x ⊎ ContainsAt ys x
-has_append_cases xs ys x h =
-    let k = h.0 in
-    ⊎_elim
-    (λ (low : k < length xs). inl (k, low, λ d. sym (get_or_append_left xs ys d k low) ∙ h.2 d))
-    (λ (high : length xs ≤ k). inr (k - length xs, omega (arith, h.1, length-append xs ys), λ d. sym (get_or-append_right xs ys (length xs) k d refl high) ∙ h.2 d))
-    (cases_lt k (length xs))
-
-in_from_has : (run : Run) (p : ℕ) → ContainsAt (places_of run) p → InRun run p
+pub in_from_has : (run : Run) (p : ℕ) → Contains (places_of run) p → InRun run p
 in_from_has run p h =
     let k = h.0 in
     let below : k < run.count = omega (arith, h.1, length-range_with_len run.first run.count) in
     let same = get_or-range_with_len run.first run.count k 0 below in
-    let here = h.2 0 in
+    let here = get_or_default (places_of run) k 0 p h.1 ∙ h.2 in
     (omega arith, omega arith)
 
-has_from_in : (run : Run) (p : ℕ) → InRun run p → ContainsAt (places_of run) p
+has_from_in : (run : Run) (p : ℕ) → InRun run p → Contains (places_of run) p
 has_from_in run p h =
     let k : ℕ = p - run.first in
     let below : k < run.count = omega arith in
     let back : run.first + k ≡ p = omega arith in
-    (k, omega (arith, length-range_with_len run.first run.count), λ d. get_or-range_with_len run.first run.count k d below ∙ back)
+    (k, omega (arith, length-range_with_len run.first run.count), get_or-range_with_len run.first run.count k p below ∙ back)
 
-pub has_from_run : (runs : List Run) (i : ℕ) (d : Run) (p : ℕ) → i < length runs → InRun (get_or runs i d) p → ContainsAt (spelled runs) p
+pub has_from_run : (runs : List Run) (i : ℕ) (d : Run) (p : ℕ) → i < length runs → InRun (get_or runs i d) p → Contains (spelled runs) p
 has_from_run [] i d p h k = absurd (omega arith)
-has_from_run (run ∷ runs) zero d p h k = has_append_left (places_of run) (spelled runs) p (has_from_in run p k)
-has_from_run (run ∷ runs) (suc i) d p h k = has_append_right (places_of run) (spelled runs) p (has_from_run runs i d p (omega arith) k)
+has_from_run (run ∷ runs) zero d p h k = Contains-append_left (places_of run) (spelled runs) p (has_from_in run p k)
+has_from_run (run ∷ runs) (suc i) d p h k = Contains-append_right (places_of run) (spelled runs) p (has_from_run runs i d p (omega arith) k)
 
 spelled_push : (runs : List Run) (run : Run) → spelled (runs ++ run ∷ []) ≡ spelled runs ++ places_of run
 spelled_push runs run = sym (flat_map_more places_of [] runs run)
-
--- no place of the runs below i is among Q
-abbrev pub Free : (ℕ → Type 0) → List Run → ℕ → Type 0
-Free Q runs i = (p : ℕ) → Q p → ContainsAt (spelled (take i runs)) p → ⊥
-
-pub free_none : (Q : ℕ → Type 0) (runs : List Run) → Free Q runs 0
-free_none Q runs p q h = omega (arith, h.1)
-
-pub free_more : (Q : ℕ → Type 0) (runs : List Run) (i : ℕ) (d : Run) → i < length runs → Free Q runs i → ((p : ℕ) → Q p → InRun (get_or runs i d) p → ⊥) → Free Q runs (i + 1)
-free_more Q runs i d h free here p q among =
-    let run = get_or runs i d in
-    let more = ap spelled (take_more runs i d h) ∙ spelled_push (take i runs) run in
-    ⊎_elim (free p q) (λ k. here p q (in_from_has run p k)) (has_append_cases (spelled (take i runs)) (places_of run) p (subst (λ xs. ContainsAt xs p) more among))
-
-pub free_all : (Q : ℕ → Type 0) (runs : List Run) (i : ℕ) → length runs ≤ i → Free Q runs i → (p : ℕ) → Q p → ContainsAt (spelled runs) p → ⊥
-free_all Q runs i h free p q among = free p q (subst (λ rs. ContainsAt (spelled rs) p) (sym (take_all i runs h)) among)
 
 -- One more place
 
@@ -135,8 +110,8 @@ placed_new runs new one elsewhere = (
 abbrev pub PlacesIn : List Run → Layout → ℕ → Type 0
 PlacesIn runs layout n = (spelled runs ≡ map layout.place (range_with_len 0 n)) × Longest runs
 
-pub places-length : (runs : List Run) (layout : Layout) (n : ℕ) → PlacesIn runs layout n → length (spelled runs) ≡ n
-places-length runs layout n h = ap length h.0 ∙ length-map-range_with_len layout.place 0 n
+placed : (l : Layout) (n p : ℕ) → n < l.count → Some p ≡ place_of l n → p ≡ l.place n
+placed l n p h e = grind (arith, nat_tests)
 
 pub places_more : (before after : List Run) (layout : Layout) (n p : ℕ) → n < layout.count → Some p ≡ place_of layout n → PlacesIn before layout n → Placed before after p → PlacesIn after layout (n + 1)
 places_more before after layout n p h is so_far more = (
@@ -146,6 +121,3 @@ places_more before after layout n p h is so_far more = (
       ∙ sym (map-range_with_len_more layout.place 0 n n (omega arith)),
   more.1 so_far.1,
 )
-
-pub places_all : (runs : List Run) (layout : Layout) (n : ℕ) → n ≡ layout.count → PlacesIn runs layout n → PlacesIn runs layout layout.count
-places_all runs layout n all = subst (PlacesIn runs layout) all

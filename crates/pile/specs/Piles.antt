@@ -1,6 +1,6 @@
 -- What a pile of placements means.
-use Rattle.std.specs.Prelude.{◌≡◌, ℕ, cond, List, [], ◌∷◌, None, vec_items, fold, Option, MatchOption, nat_le}
-use Rattle.volume.specs.Layouts.{Layout, Lawful, BlockAt, layered}
+use Rattle.std.specs.Prelude.{List, [], ◌∷◌, vec_items, fold}
+use Rattle.volume.specs.Layouts.{Layout, Lawful, layered}
 use Rattle.volume.specs.Fits.{layered_lawful}
 use Rattle.pile.specs.declared.Pile.{Pile}
 
@@ -16,7 +16,3 @@ pile_lawful {P} layout lawful bottom above = rising above (layout bottom) (lawfu
   rising : (uppers : List P) (lower : Layout) → Lawful lower → Lawful (fold (λ lower upper. layered (layout upper) lower) lower uppers)
   rising [] lower low = low
   rising (u ∷ us) lower low = rising us (layered (layout u) lower) (layered_lawful (layout u) lower (lawful u) low)
-
--- r is the upper's block at a block of a lower that has so many, and None where the upper does not fit or there is no such block
-abbrev pub BlockOn : Layout → ℕ → Option ℕ → Option ℕ → Type 0
-BlockOn upper there block r = MatchOption block (r ≡ None) (λ m. cond (nat_le upper.total there) (BlockAt upper m r) (r ≡ None))

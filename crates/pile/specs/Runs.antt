@@ -1,5 +1,5 @@
 -- Runs of places that follow one another.
-use Rattle.std.specs.Prelude.{◌≡◌, ℕ, ◌+◌, ◌<◌, ◌≤◌, List, [], ◌∷◌, ◌++◌}
+use Rattle.std.specs.Prelude.{◌≡◌, ℕ, ◌+◌, ◌<◌, ◌≤◌, List, [], ◌∷◌, ◌++◌, Option, MatchOption}
 use Rattle.std.specs.List.{range_with_len, flat_map}
 use Rattle.pile.specs.declared.runs.Run.{Run}
 
@@ -13,6 +13,10 @@ spelled runs = flat_map places_of runs
 
 abbrev pub InRun : Run → ℕ → Type 0
 InRun run p = (run.first ≤ p) × (p < run.first + run.count)
+
+-- r is a place in both, and None where no place is
+abbrev pub InBoth : (ℕ → Type 0) → (ℕ → Type 0) → Option ℕ → Type 0
+InBoth A B r = MatchOption r ((p : ℕ) → A p → B p → ⊥) (λ p. A p × B p)
 
 -- the next run, if there is one, does not begin where this one ends
 abbrev pub Stops : Run → List Run → Type 0

@@ -6,6 +6,7 @@ use placement::tracks::SparedTracks;
 use placement::window::Window;
 use volume::Placement;
 
+// The kinds are closed: a boxed `dyn` would be no plainer, and hide from clauses which of them it is.
 #[derive(Drop)]
 pub enum Layer {
     Tracks(SparedTracks),

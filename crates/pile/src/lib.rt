@@ -8,7 +8,6 @@ use std::alloc::{AllocFailed, Global};
 use volume::Placement;
 
 pub mod layer;
-mod levels;
 pub mod runs;
 
 // The first placement lies lowest, and each later one stands on what is there. Where one does not fit, the pile has no block.
@@ -34,7 +33,7 @@ impl<P: Placement> Pile<P> {
             (λ _. layout_of P.Placement.layout self.new ≡ layered (P.Placement.layout upper) (layout_of P.Placement.layout self.old))
             (λ e. (e.value ≡ upper) × (layout_of P.Placement.layout self.new ≡ layout_of P.Placement.layout self.old)) }
     {
-        levels::put_above(&self.bottom, &mut self.above, upper)
+        self.above.push(upper)
     }
 }
 
@@ -44,22 +43,37 @@ impl<P: Placement> Placement for Pile<P> {
     ghost lawful = { λ s. pile_lawful P.Placement.layout P.Placement.lawful s.bottom s.above.items };
 
     fn count(&self) -> u32 {
-        levels::count_of(&self.bottom, self.above.as_slice())
+        self.above
+            .iter()
+            .fold(self.bottom.count(), |there, upper| upper.count_on(there))
     }
 
     fn total(&self) -> u32 {
-        levels::total_of(&self.bottom, self.above.as_slice())
+        self.bottom.total()
     }
 
+    // From the top down: the place of a block is a block of what lies below.
     fn place(&self, n: u32) -> Option<u32> {
-        if n < self.count() {
-            levels::place_of(&self.bottom, self.above.as_slice(), n)
-        } else {
-            None
+        if n >= self.count() {
+            return None;
         }
+        // A loop for its `?`: `try_fold` would put the same step in a closure.
+        let mut block = n;
+        for upper in self.above.iter().rev() {
+            block = upper.place(block)?;
+        }
+        self.bottom.place(block)
     }
 
+    // From the bottom up: the block at a place is a place of what lies above.
     fn block_at(&self, place: u32) -> Option<u32> {
-        levels::block_of(&self.bottom, self.above.as_slice(), place)
+        // Two values go along: a fold over the pair would be no plainer.
+        let mut there = self.bottom.count();
+        let mut block = self.bottom.block_at(place);
+        for upper in &self.above {
+            block = upper.block_on(there, block);
+            there = upper.count_on(there);
+        }
+        block
     }
 }

@@ -1,7 +1,7 @@
 // Runs of places that follow one another.
-ghost use Rattle.std.specs.Prelude.{◌≡◌, ℕ, ◌+◌, ◌<◌, map, length, IfOk, MatchOption, OnOk, ◌==◌};
-ghost use Rattle.std.specs.List.{range_with_len, ContainsAt};
-ghost use Rattle.pile.specs.Runs.{spelled, InRun, Longest, Placed};
+ghost use Rattle.std.specs.Prelude.{◌≡◌, ◌+◌, ◌<◌, map, length, IfOk, OnOk, ◌==◌};
+ghost use Rattle.std.specs.List.{range_with_len, Contains};
+ghost use Rattle.pile.specs.Runs.{spelled, InRun, InBoth, Longest, Placed};
 
 use std::alloc::{AllocError, Global};
 use volume::Placement;
@@ -25,6 +25,21 @@ impl Run {
     {
         self.end() == u64::from(place)
     }
+
+    // A place that both have.
+    fn shared_with(self, other: Run) -> Option<u32>
+        ensures { InBoth (InRun self) (InRun other) result }
+    {
+        let first = self.first.max(other.first);
+        (u64::from(first) < self.end().min(other.end())).then_some(first)
+    }
+
+    // A place of the run that one of the others has.
+    fn shared_among(self, others: &[Run]) -> Option<u32>
+        ensures { InBoth (InRun self) (Contains (spelled others.now)) result }
+    {
+        others.iter().find_map(|&other| self.shared_with(other))
+    }
 }
 
 // The places of blocks 0, 1, 2 and so on, joined where they follow one another.
@@ -33,6 +48,7 @@ pub fn runs_of<P: Placement>(heap: Global, placement: &P) -> Result<Vec<Run>, Al
     ensures longest { IfOk result (λ v. Longest v.items) }
 {
     let mut runs = Vec::new(heap);
+    // n is the number of a block, and indexes nothing.
     for n in 0..placement.count() {
         if let Some(place) = placement.place(n) {
             put_place(&mut runs, place)?;
@@ -46,49 +62,19 @@ fn put_place(runs: &mut Vec<Run>, place: u32) -> Result<(), AllocError>
     requires { length (spelled runs.old.items) < 4294967295 }
     ensures { OnOk result (Placed runs.old.items runs.new.items place) }
 {
-    let len = runs.len();
-    if len > 0 && runs[len - 1].ends_at(place) {
-        runs[len - 1].count += 1;
-    } else {
-        runs.push(Run {
+    match runs.last_mut() {
+        Some(last) if last.ends_at(place) => last.count += 1,
+        _ => runs.push(Run {
             first: place,
             count: 1,
-        })?;
+        })?,
     }
     Ok(())
 }
 
 // A place that both have.
 pub fn shared_place(a: &[Run], b: &[Run]) -> Option<u32>
-    ensures { MatchOption result ((p : ℕ) → ContainsAt (spelled a.now) p → ContainsAt (spelled b.now) p → ⊥) (λ p. ContainsAt (spelled a.now) p × ContainsAt (spelled b.now) p) }
+    ensures { InBoth (Contains (spelled a.now)) (Contains (spelled b.now)) result }
 {
-    for run in a {
-        if let Some(place) = place_among(*run, b) {
-            return Some(place);
-        }
-    }
-    None
-}
-
-// A place of the run that the others have.
-fn place_among(run: Run, others: &[Run]) -> Option<u32>
-    ensures { MatchOption result ((p : ℕ) → InRun run p → ContainsAt (spelled others.now) p → ⊥) (λ p. InRun run p × ContainsAt (spelled others.now) p) }
-{
-    for other in others {
-        if let Some(place) = common_place(run, *other) {
-            return Some(place);
-        }
-    }
-    None
-}
-
-fn common_place(a: Run, b: Run) -> Option<u32>
-    ensures { MatchOption result ((p : ℕ) → InRun a p → InRun b p → ⊥) (λ p. InRun a p × InRun b p) }
-{
-    let first = a.first.max(b.first);
-    if u64::from(first) < a.end().min(b.end()) {
-        Some(first)
-    } else {
-        None
-    }
+    a.iter().find_map(|run| run.shared_among(b))
 }

@@ -1,5 +1,6 @@
 -- The block at a place, under spared tracks.
-use Rattle.std.proofs.Common.{◌≡◌, ℕ, ◌+◌, ◌-◌, ◌*◌, ◌/◌, ◌%◌, ◌<◌, ◌≤◌, Bool, true, false, cond, ltb, List, Some, None, sym, refl, ap, ◌∙◌, arith}
+use Rattle.std.proofs.Common.{◌≡◌, ℕ, ◌+◌, ◌-◌, ◌*◌, ◌/◌, ◌%◌, ◌<◌, ◌≤◌, Bool, true, false, ltb, List, Some, None, sym, refl, ap, ◌∙◌, arith}
+use Rattle.std.specs.Bool.{then_some}
 use Rattle.std.proofs.lemmas.Nat.{div-add-mod', div-mul-add, mod-mul-add, div_below, mod_below, mul-add-lt, mul-le}
 use Rattle.std.proofs.lemmas.Bool.{ltb-true, ltb-false}
 use Rattle.volume.specs.Layouts.{BlockAt}
@@ -25,39 +26,39 @@ module _ (d : Shape) (ss : List ℕ) (shape : ShapeFits d) (list : ListFits d ss
     none_spared none n h e =
         let was = rank-shift ss d.firmware d.tracks (d.firmware + n / d.sectors) 0 list.0 in
         let here = ap (λ u. rank u 0 ss) (at n h e) in
-        let z : ◌≡◌ {A = ℕ} 0 1 = cc in omega arith
+        absurd (cc)
 
     module _ (m : ℕ) (from : d.firmware ≤ p / d.sectors) (ranked : rank (p / d.sectors) 0 ss ≡ Some m) where
-      pub back : (m ≤ p / d.sectors) × (d.firmware ≤ p / d.sectors - m) × (shift (p / d.sectors - m) ss ≡ p / d.sectors)
+      -- the logical track there
+      abbrev k : ℕ
+      k = p / d.sectors - d.firmware - m
+
+      pub back : (m ≤ p / d.sectors - d.firmware) × (shift (d.firmware + k) ss ≡ p / d.sectors)
       back =
           let r = shift-rank ss d.firmware d.tracks (p / d.sectors) 0 m list.0 from ranked in
-          let e : p / d.sectors - m ≡ p / d.sectors - (m - 0) = omega arith in
-          (omega (arith, r), omega (arith, r), ap (λ y. shift y ss) e ∙ r.2)
+          (omega (arith, r), ap (λ t. shift t ss) (omega (arith, r)) ∙ r.2)
 
       -- nor on one of those kept back
-      none_reserve : d.tracks - d.firmware - d.spares ≤ p / d.sectors - m - d.firmware → BlockAt (track_layout d ss) p None
+      none_reserve : d.tracks - d.firmware - d.spares ≤ k → BlockAt (track_layout d ss) p None
       none_reserve high n h e =
-          let s = d.sectors in
           let c = d.tracks - d.firmware - d.spares in
-          let same = shift_same ss (d.firmware + n / s) (p / s - m) (at n h e ∙ sym back.2) in
-          omega (arith, same, back.0, back.1, div_below n s c (positive c s n h) h)
+          let same = shift_same ss (d.firmware + n / d.sectors) (d.firmware + k) (at n h e ∙ sym back.1) in
+          omega (arith, same, div_below n d.sectors c (positive c d.sectors n h) h)
 
-      some_block : 0 < d.sectors → p / d.sectors - m - d.firmware < d.tracks - d.firmware - d.spares → BlockAt (track_layout d ss) p (Some ((p / d.sectors - m - d.firmware) * d.sectors + p % d.sectors))
+      some_block : 0 < d.sectors → k < d.tracks - d.firmware - d.spares → BlockAt (track_layout d ss) p (Some (k * d.sectors + p % d.sectors))
       some_block pos low =
           let s = d.sectors in
           let r = mod_below p s pos in
-          let k = p / s - m - d.firmware in
           let n = k * s + p % s in
           let below : n < (track_layout d ss).count = omega (arith, mul-add-lt k s (p % s) (d.tracks - d.firmware - d.spares) low r) in
-          let track : shift (d.firmware + n / s) ss ≡ p / s = ap (λ q. shift (d.firmware + q) ss) (div-mul-add k s (p % s) r) ∙ ap (λ q. shift q ss) (omega (arith, back.1)) ∙ back.2 in
+          let track : shift (d.firmware + n / s) ss ≡ p / s = ap (λ q. shift (d.firmware + q) ss) (div-mul-add k s (p % s) r) ∙ back.1 in
           (below, place-shift d ss shape list n below ∙ ap (λ q. q * s + n % s) track ∙ ap (λ q. p / s * s + q) (mod-mul-add k s (p % s) r) ∙ div-add-mod' p s)
 
       -- on any other track the sector's block is as many tracks up, less those spared below
-      pub some_or_none : 0 < d.sectors → BlockAt (track_layout d ss) p (cond (ltb (p / d.sectors - m - d.firmware) (d.tracks - d.firmware - d.spares)) (Some ((p / d.sectors - m - d.firmware) * d.sectors + p % d.sectors)) None)
+      pub some_or_none : 0 < d.sectors → BlockAt (track_layout d ss) p (then_some (ltb k (d.tracks - d.firmware - d.spares)) (k * d.sectors + p % d.sectors))
       some_or_none pos =
-          let k = p / d.sectors - m - d.firmware in
           let c = d.tracks - d.firmware - d.spares in
           by (ltb k c) (λ e. some_block pos (ltb-true k c e)) (λ e. none_reserve (ltb-false k c e)) where
-            by : (t : Bool) → (t ≡ true → BlockAt (track_layout d ss) p (Some ((p / d.sectors - m - d.firmware) * d.sectors + p % d.sectors))) → (t ≡ false → BlockAt (track_layout d ss) p None) → BlockAt (track_layout d ss) p (cond t (Some ((p / d.sectors - m - d.firmware) * d.sectors + p % d.sectors)) None)
+            by : (t : Bool) → (t ≡ true → BlockAt (track_layout d ss) p (Some (k * d.sectors + p % d.sectors))) → (t ≡ false → BlockAt (track_layout d ss) p None) → BlockAt (track_layout d ss) p (then_some t (k * d.sectors + p % d.sectors))
             by true some none = some refl
             by false some none = none refl

@@ -1,2 +1,2 @@
 pub mod Inverse
-pub mod Lent
+pub mod Lists

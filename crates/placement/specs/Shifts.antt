@@ -2,7 +2,8 @@
 use Rattle.std.specs.Prelude.{◌≡◌, ℕ, zero, suc, ◌+◌, ◌-◌, ◌*◌, ◌/◌, ◌%◌, ◌<◌, ◌≤◌, Bool, true, false, cond, not, ◌||◌, ◌⊎◌, List, [], ◌∷◌, length, Some, None, filter, Option, ◌==◌, nat_le, nat_lt, slice_index, refl}
 use Rattle.std.proofs.Common.{sym, ap, ◌∙◌, inl, inr, ⊎_elim, arith, mul-zero, mul-le-mul_right}
 use Rattle.std.specs.List.{range_with_len}
-use Rattle.std.proofs.lemmas.Bool.{and_parts, and_from, or_from, leb-true, ltb-true, le-leb, lt-leb, lt-ltb, le-ltb, eq-eqb, ne_eqb, cases_lt, cond-true, cond-false}
+use Rattle.std.proofs.lemmas.Bool.Decides.{nat_tests}
+use Rattle.std.proofs.lemmas.Bool.{and_parts, leb-true, ltb-true, eq-eqb, ne_eqb, cases_lt, cases_order, cond-true, cond-false}
 use Rattle.std.proofs.lemmas.Nat.{div-add-mod', div-mul-add, mod-mul-add, div_below, mod_below, mul-add-lt}
 use Rattle.volume.specs.Layouts.{Lawful}
 use Rattle.placement.specs.Tracks.{is_spared, usable, track_layout, rising, ShapeFits, ListFits}
@@ -24,49 +25,38 @@ rank u n (s ∷ ss) = cond (s == u) None (rank u (n + cond (nat_lt s u) 1 0) ss)
 -- Moving on
 
 pub step_cases : (s t : ℕ) → ((s ≤ t) × (step s t ≡ t + 1)) ⊎ ((t < s) × (step s t ≡ t))
-step_cases s t = ⊎_elim
-    (λ h. inr (h, ap (λ b. t + cond b 1 0) (lt-leb s t h) ∙ omega arith))
-    (λ h. inl (h, ap (λ b. t + cond b 1 0) (le-leb s t h)))
-    (cases_lt t s)
+step_cases s t = ⊎_elim (λ h. inr (h, grind (arith, nat_tests))) (λ h. inl (h, grind (arith, nat_tests))) (cases_lt t s)
 
 step_lt : (s a b : ℕ) → a < b → step s a < step s b
-step_lt s a b h = ⊎_elim
-    (λ p. ⊎_elim (λ q. omega arith) (λ q. omega arith) (step_cases s b))
-    (λ p. ⊎_elim (λ q. omega arith) (λ q. omega arith) (step_cases s b))
-    (step_cases s a)
+step_lt s a b h = grind (arith, nat_tests)
 
 shift_lt : (ss : List ℕ) (a b : ℕ) → a < b → shift a ss < shift b ss
 shift_lt [] a b h = h
 shift_lt (s ∷ ss) a b h = shift_lt ss (step s a) (step s b) (step_lt s a b h)
 
 pub shift_same : (ss : List ℕ) (a b : ℕ) → shift a ss ≡ shift b ss → a ≡ b
-shift_same ss a b e = ⊎_elim
-    (λ h. absurd (omega (arith, shift_lt ss a b h)))
-    (λ h. ⊎_elim (λ g. absurd (omega (arith, shift_lt ss b a g))) (λ g. omega arith) (cases_lt b a))
-    (cases_lt a b)
+shift_same ss a b e = grind (arith, shift_lt ss a b, shift_lt ss b a)
 
 shift-most : (ss : List ℕ) (t : ℕ) → shift t ss ≤ t + length ss
 shift-most [] t = omega arith
 shift-most (s ∷ ss) t =
-    let more = shift-most ss (step s t) in
-    ⊎_elim (λ p. omega arith) (λ p. omega arith) (step_cases s t)
+    grind (arith, nat_tests, shift-most ss (step s t))
 
 pub shift_least : (ss : List ℕ) (t : ℕ) → t ≤ shift t ss
 shift_least [] t = omega arith
 shift_least (s ∷ ss) t =
-    let more = shift_least ss (step s t) in
-    ⊎_elim (λ p. omega arith) (λ p. omega arith) (step_cases s t)
+    grind (arith, nat_tests, shift_least ss (step s t))
 
 -- Rising lists
 
-rising_head : (lo hi s : ℕ) (ss : List ℕ) → rising lo hi (s ∷ ss) ≡ true → (lo ≤ s) × (s < hi) × (rising (s + 1) hi ss ≡ true)
+pub rising_head : (lo hi s : ℕ) (ss : List ℕ) → rising lo hi (s ∷ ss) ≡ true → (lo ≤ s) × (s < hi) × (rising (s + 1) hi ss ≡ true)
 rising_head lo hi s ss e =
     let p = and_parts _ _ e in
     let q = and_parts _ _ p.0 in
     (leb-true lo s q.0, ltb-true s hi q.1, p.1)
 
-rising-from : (lo hi s : ℕ) (ss : List ℕ) → lo ≤ s → s < hi → rising (s + 1) hi ss ≡ true → rising lo hi (s ∷ ss) ≡ true
-rising-from lo hi s ss low high rest = and_from _ _ (and_from _ _ (le-leb lo s low) (lt-ltb s hi high)) rest
+pub rising-from : (lo hi s : ℕ) (ss : List ℕ) → lo ≤ s → s < hi → rising (s + 1) hi ss ≡ true → rising lo hi (s ∷ ss) ≡ true
+rising-from lo hi s ss low high rest = grind (arith, nat_tests)
 
 -- the first track is below all that are spared, or is the first of them
 rising_cases : (lo hi : ℕ) (ss : List ℕ) → rising lo hi ss ≡ true → (rising (lo + 1) hi ss ≡ true) ⊎ ((rest : List ℕ) × (ss ≡ lo ∷ rest) × (rising (lo + 1) hi rest ≡ true))
@@ -82,13 +72,13 @@ shift_none : (ss : List ℕ) (lo hi t : ℕ) → rising lo hi ss ≡ true → t 
 shift_none [] lo hi t e h = refl
 shift_none (s ∷ ss) lo hi t e h =
     let p = rising_head lo hi s ss e in
-    ⊎_elim (λ q. absurd (omega (arith, p, q))) (λ q. ap (λ y. shift y ss) q.1 ∙ shift_none ss (s + 1) hi t p.2 (omega (arith, p, q))) (step_cases s t)
+    grind (arith, nat_tests, p.0, shift_none ss (s + 1) hi t p.2 (omega (arith, p)))
 
 spared_none : (ss : List ℕ) (lo hi t : ℕ) → rising lo hi ss ≡ true → t < lo → is_spared ss t ≡ false
 spared_none [] lo hi t e h = refl
 spared_none (s ∷ ss) lo hi t e h =
     let p = rising_head lo hi s ss e in
-    or_from _ _ (ne_eqb s t (λ q. omega (arith, p))) (spared_none ss (s + 1) hi t p.2 (omega (arith, p)))
+    grind (arith, nat_tests, p.0, spared_none ss (s + 1) hi t p.2 (omega (arith, p)))
 
 -- The tracks that are not spared
 
@@ -152,13 +142,13 @@ module _ (d : Shape) (ss : List ℕ) (shape : ShapeFits d) (list : ListFits d ss
 -- Counting back
 
 rank_step : (u n s : ℕ) (ss : List ℕ) → s < u → rank u n (s ∷ ss) ≡ rank u (n + 1) ss
-rank_step u n s ss h = cond-false _ _ _ (ne_eqb s u (λ e. omega arith)) ∙ ap (λ b. rank u (n + cond b 1 0) ss) (lt-ltb s u h)
+rank_step u n s ss h = grind (arith, nat_tests)
 
 rank_skip : (u n s : ℕ) (ss : List ℕ) → u < s → rank u n (s ∷ ss) ≡ rank u n ss
-rank_skip u n s ss h = cond-false _ _ _ (ne_eqb s u (λ e. omega arith)) ∙ ap (λ b. rank u (n + cond b 1 0) ss) (le-ltb s u (omega arith)) ∙ ap (λ y. rank u y ss) (omega arith)
+rank_skip u n s ss h = grind (arith, nat_tests)
 
 rank_hit : (u n s : ℕ) (ss : List ℕ) → s ≡ u → rank u n (s ∷ ss) ≡ None
-rank_hit u n s ss h = cond-true _ _ _ (eq-eqb s u h)
+rank_hit u n s ss h = grind (arith, nat_tests)
 
 -- a track below them all comes after none
 rank_none : (ss : List ℕ) (lo hi u n : ℕ) → rising lo hi ss ≡ true → u < lo → rank u n ss ≡ Some n
@@ -172,15 +162,8 @@ pub rank-shift : (ss : List ℕ) (lo hi t n : ℕ) → rising lo hi ss ≡ true 
 rank-shift [] lo hi t n e = ap Some (omega arith)
 rank-shift (s ∷ ss) lo hi t n e =
     let p = rising_head lo hi s ss e in
-    ⊎_elim
-    (λ q.
-    let u = shift (step s t) ss in
     let least = shift_least ss (step s t) in
-    rank_step u n s ss (omega (arith, q, least)) ∙ rank-shift ss (s + 1) hi (step s t) (n + 1) p.2 ∙ ap Some (omega (arith, q, least)))
-    (λ q.
-    let same : shift (step s t) ss ≡ t = ap (λ y. shift y ss) q.1 ∙ shift_none ss (s + 1) hi t p.2 (omega (arith, q)) in
-    ap (λ y. rank y n (s ∷ ss)) same ∙ rank_skip t n s ss q.0 ∙ rank_none ss (s + 1) hi t n p.2 (omega (arith, q)) ∙ ap Some (omega (arith, same)))
-    (step_cases s t)
+    grind (arith, nat_tests, shift_none ss (s + 1) hi t p.2, rank-shift ss (s + 1) hi (step s t) n p.2, rank-shift ss (s + 1) hi (step s t) (n + 1) p.2)
 
 -- and where a track comes after m spared ones, a shift of the track m below gives it
 pub shift-rank : (ss : List ℕ) (lo hi u n m : ℕ) → rising lo hi ss ≡ true → lo ≤ u → rank u n ss ≡ Some m → (n ≤ m) × (lo + (m - n) ≤ u) × (shift (u - (m - n)) ss ≡ u)
@@ -188,16 +171,16 @@ shift-rank [] lo hi u n m e h r = let same : n ≡ m = cc in (omega arith, omega
 shift-rank (s ∷ ss) lo hi u n m e h r =
     let p = rising_head lo hi s ss e in
     ⊎_elim
-    (λ lt.
-    let q = shift-rank ss (s + 1) hi u (n + 1) m p.2 (omega arith) (sym (rank_step u n s ss lt) ∙ r) in
-    let first : step s (u - (m - n)) ≡ u - (m - (n + 1)) = ⊎_elim (λ c. omega (arith, c, q)) (λ c. omega (arith, c, q)) (step_cases s (u - (m - n))) in
+    (λ same. let none = rank_hit u n s ss same in absurd (cc))
+    (λ apart. ⊎_elim
+    (λ above.
+    let q = shift-rank ss (s + 1) hi u (n + 1) m p.2 (omega arith) (sym (rank_step u n s ss above) ∙ r) in
+    let first : step s (u - (m - n)) ≡ u - (m - (n + 1)) = grind (arith, nat_tests, q.0, q.1) in
     (omega (arith, q), omega (arith, q, p), ap (λ y. shift y ss) first ∙ q.2))
-    (λ le. ⊎_elim
-    (λ lt.
-    let same : ◌≡◌ {A = Option ℕ} (Some n) (Some m) = sym (rank_skip u n s ss lt ∙ rank_none ss (s + 1) hi u n p.2 (omega arith)) ∙ r in
-    let nm : n ≡ m = cc in
-    let zero : u - (m - n) ≡ u = omega arith in
-    (omega arith, omega arith, ap (λ y. shift y (s ∷ ss)) zero ∙ shift_none (s ∷ ss) s hi u (rising-from s hi s ss (omega arith) p.1 p.2) lt))
-    (λ ge. let bad : ◌≡◌ {A = Option ℕ} None (Some m) = sym (rank_hit u n s ss (omega arith)) ∙ r in let z : ◌≡◌ {A = ℕ} 0 1 = cc in absurd (omega arith))
-    (cases_lt u s))
-    (cases_lt s u)
+    (λ below.
+    let up = rising-from s hi s ss (omega arith) p.1 p.2 in
+    let none = rank_none (s ∷ ss) s hi u n up below in
+    let same : n ≡ m = cc in
+    (omega arith, omega arith, ap (λ y. shift y (s ∷ ss)) (omega arith) ∙ shift_none (s ∷ ss) s hi u up below))
+    apart)
+    (cases_order s u)

@@ -1,14 +1,13 @@
 -- Spared tracks: logical track k is the k-th, from 0, of the tracks behind the firmware that are not spared.
-use Rattle.std.specs.Prelude.{◌≡◌, ℕ, ◌+◌, ◌-◌, ◌*◌, ◌/◌, ◌%◌, ◌≤◌, Bool, true, false, cond, not, ◌&&◌, ◌||◌, List, [], ◌∷◌, length, Ok, Err, filter, Result, ◌==◌, nat_le, nat_lt, slice_index}
-use Rattle.std.specs.List.{range_with_len}
+use Rattle.std.specs.Prelude.{◌≡◌, ℕ, ◌+◌, ◌-◌, ◌*◌, ◌/◌, ◌%◌, ◌≤◌, Bool, true, cond, not, ◌&&◌, List, [], ◌∷◌, length, Ok, Err, filter, Result, ◌==◌, nat_le, nat_lt, slice_index}
+use Rattle.std.specs.List.{range_with_len, list_any}
 use Rattle.volume.specs.Layouts.{Layout}
 use Rattle.placement.specs.declared.refusal.Refusal.{Refusal}
 use Rattle.placement.specs.declared.refusal.Refusal.TheVariants as refusals
 use Rattle.placement.specs.declared.shape.Shape.{Shape}
 
 abbrev pub is_spared : List ℕ → ℕ → Bool
-is_spared [] track = false
-is_spared (s ∷ ss) track = s == track || is_spared ss track
+is_spared ss track = list_any (λ s. s == track) ss
 
 -- the tracks behind the firmware that are not spared, in order
 abbrev pub usable : Shape → List ℕ → List ℕ

@@ -1,4 +1,3 @@
-pub mod Shelves
 pub mod Stores
 pub mod Notes
 pub mod Drives

@@ -6,11 +6,12 @@ use crate::Store;
 use crate::noted::Noted;
 use pile::Pile;
 use pile::layer::Layer;
-use volume::answers::{ReadAnswer, WriteAnswer};
+use volume::answers::{ReadRefusal, WriteRefusal};
 use volume::piled::Piled;
 use volume::{Placement, Volume};
 
-// Of the pile's placements the first lies lowest. As the store, it is not `Drop`: `into_store` ends it.
+// Of the pile's placements the first lies lowest. The kinds are closed, and a boxed `dyn` would hide them from clauses, as a store's.
+// As the store, it is not `Drop`: `into_store` ends it.
 pub enum Drive {
     Plain(Store),
     Piled(Piled<Pile<Layer>, Store>),
@@ -39,25 +40,20 @@ impl Drive {
     pub fn bottom_block(&self, n: u32) -> Option<u32>
         ensures { result ≡ bottom_block (drive_meaning self.now) n }
     {
-        if n >= self.count() {
-            return None;
-        }
         match self {
-            Drive::Plain(_) => Some(n),
-            Drive::Piled(piled) => piled.pile.place(n),
+            Drive::Plain(store) => (n < store.count()).then_some(n),
+            Drive::Piled(piled) => piled.pile.place_on(piled.volume.count(), n),
         }
     }
 }
 
+// Here and not beside Noted, which is of any volume.
 impl Noted<Drive> {
     // Tells which of the store's blocks was written last since `take_bottom` forgot one, and forgets nothing.
     pub fn bottom(&self) -> Option<u32>
         ensures { result ≡ bottom_noted (drive_meaning self.now.volume) self.now.last }
     {
-        match self.written() {
-            Some(n) => self.volume().bottom_block(n),
-            None => None,
-        }
+        self.written().and_then(|n| self.volume().bottom_block(n))
     }
 
     // Tells which of the store's blocks was written last since it was asked before, and forgets it.
@@ -91,14 +87,14 @@ impl Volume for Drive {
         }
     }
 
-    fn read(&self, n: u32, buffer: &mut [u8; 512]) -> ReadAnswer {
+    fn read(&self, n: u32, buffer: &mut [u8; 512]) -> Result<(), ReadRefusal> {
         match self {
             Drive::Plain(store) => store.read(n, buffer),
             Drive::Piled(piled) => piled.read(n, buffer),
         }
     }
 
-    fn write(&mut self, n: u32, bytes: &[u8; 512]) -> WriteAnswer {
+    fn write(&mut self, n: u32, bytes: &[u8; 512]) -> Result<(), WriteRefusal> {
         match self {
             Drive::Plain(store) => store.write(n, bytes),
             Drive::Piled(piled) => piled.write(n, bytes),

@@ -2,24 +2,22 @@
 // The volumes that a program chooses among at run time: a store, with a pile on it or none, and a note of what was written.
 ghost use Rattle.std.specs.Prelude.{◌≡◌};
 ghost use Rattle.volume.specs.Meanings.{write_answer, written};
-ghost use Rattle.store.specs.Stores.{store_meaning, store_sound, store_bytes, block_byte_in, map_byte_in, bank_byte, store_with, SameOffsets};
-ghost use Rattle.bank.specs.Banks.{all_bytes};
+ghost use Rattle.store.specs.Stores.{store_meaning, store_sound, store_bytes, block_byte_in, map_byte_in, store_with, SameOffsets};
 
 use bank::Bank;
+use image::shelf::ShelfImage;
 use image::work::WorkImage;
-use shelf::Shelf;
 use volume::Volume;
-use volume::answers::{ReadAnswer, WriteAnswer};
+use volume::answers::{ReadRefusal, WriteRefusal};
 
 pub mod drive;
 pub mod noted;
-pub mod shelf;
-mod writes;
 
+// The kinds are closed: a boxed `dyn` would be no plainer, and hide from clauses where each kind has its blocks.
 // Letting a Bank go would lose its held sector, so a store is not `Drop`: `into_bytes` ends it.
 pub enum Store {
     Work(WorkImage),
-    Shelf(Shelf),
+    Shelf(ShelfImage<Vec<u8>>),
     Bank(Bank),
 }
 
@@ -30,7 +28,7 @@ impl Store {
     {
         match self {
             Store::Work(image) => image.into_bytes(),
-            Store::Shelf(shelf) => shelf.into_bytes(),
+            Store::Shelf(image) => image.into_bytes(),
             Store::Bank(bank) => bank.into_bytes(),
         }
     }
@@ -42,7 +40,7 @@ impl Store {
         match self {
             Store::Work(image) => image.block_byte(n),
             Store::Shelf(_) => None,
-            Store::Bank(bank) => bank_byte(bank, n),
+            Store::Bank(bank) => bank.block_byte(n),
         }
     }
 
@@ -57,16 +55,6 @@ impl Store {
     }
 }
 
-fn bank_byte(bank: &Bank, n: u32) -> Option<u64>
-    ensures { result ≡ bank_byte (all_bytes bank.now) n }
-{
-    if n < bank.count() {
-        Some(512 * u64::from(n))
-    } else {
-        None
-    }
-}
-
 impl Volume for Store {
     ghost meaning = { store_meaning };
 
@@ -75,7 +63,7 @@ impl Volume for Store {
     fn count(&self) -> u32 {
         match self {
             Store::Work(image) => image.count(),
-            Store::Shelf(shelf) => shelf.count(),
+            Store::Shelf(image) => image.count(),
             Store::Bank(bank) => bank.count(),
         }
     }
@@ -83,30 +71,30 @@ impl Volume for Store {
     fn writable(&self) -> bool {
         match self {
             Store::Work(image) => image.writable(),
-            Store::Shelf(shelf) => shelf.writable(),
+            Store::Shelf(image) => image.writable(),
             Store::Bank(bank) => bank.writable(),
         }
     }
 
-    fn read(&self, n: u32, buffer: &mut [u8; 512]) -> ReadAnswer {
+    fn read(&self, n: u32, buffer: &mut [u8; 512]) -> Result<(), ReadRefusal> {
         match self {
             Store::Work(image) => image.read(n, buffer),
-            Store::Shelf(shelf) => shelf.read(n, buffer),
+            Store::Shelf(image) => image.read(n, buffer),
             Store::Bank(bank) => bank.read(n, buffer),
         }
     }
 
     // Of the bytes it changes the block's and its map byte, where `block_byte` and `map_byte` say, before it and after it.
-    fn write(&mut self, n: u32, bytes: &[u8; 512]) -> WriteAnswer
+    fn write(&mut self, n: u32, bytes: &[u8; 512]) -> Result<(), WriteRefusal>
         ensures answer { result ≡ write_answer (store_meaning self.old) n }
         ensures after { store_meaning self.new ≡ written (store_meaning self.old) n bytes.now }
         ensures bytes { store_bytes self.new ≡ store_with self.old n bytes.now }
         ensures offsets { SameOffsets self.old self.new }
     {
         match self {
-            Store::Work(image) => writes::write_work(image, n, bytes),
-            Store::Shelf(shelf) => writes::write_shelf(shelf, n, bytes),
-            Store::Bank(bank) => writes::write_bank(bank, n, bytes),
+            Store::Work(image) => image.write(n, bytes),
+            Store::Shelf(image) => image.write(n, bytes),
+            Store::Bank(bank) => bank.write(n, bytes),
         }
     }
 }

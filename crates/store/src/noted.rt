@@ -4,7 +4,7 @@ ghost use Rattle.volume.specs.Meanings.{write_answer, written};
 ghost use Rattle.store.specs.Notes.{noted_by};
 
 use volume::Volume;
-use volume::answers::{ReadAnswer, WriteAnswer};
+use volume::answers::{ReadRefusal, WriteRefusal};
 
 // It means what the volume means.
 #[derive(Drop)]
@@ -31,8 +31,7 @@ impl<V: Volume> Noted<V> {
     pub fn written(&self) -> Option<u32>
         ensures { result ≡ self.now.last }
     {
-        let Noted { last, .. } = self;
-        *last
+        self.last
     }
 
     // Tells the block that was written last since it was asked before, and forgets it.
@@ -64,20 +63,18 @@ impl<V: Volume> Volume for Noted<V> {
         self.volume.writable()
     }
 
-    fn read(&self, n: u32, buffer: &mut [u8; 512]) -> ReadAnswer {
+    fn read(&self, n: u32, buffer: &mut [u8; 512]) -> Result<(), ReadRefusal> {
         self.volume.read(n, buffer)
     }
 
     // An accepted write is noted.
-    fn write(&mut self, n: u32, bytes: &[u8; 512]) -> WriteAnswer
+    fn write(&mut self, n: u32, bytes: &[u8; 512]) -> Result<(), WriteRefusal>
         ensures answer { result ≡ write_answer (V.Volume.meaning self.old.volume) n }
         ensures after { V.Volume.meaning self.new.volume ≡ written (V.Volume.meaning self.old.volume) n bytes.now }
         ensures noted { self.new.last ≡ noted_by result n self.old.last }
     {
-        let answer = self.volume.write(n, bytes);
-        if let WriteAnswer::Done = answer {
-            self.last = Some(n);
-        }
-        answer
+        self.volume.write(n, bytes)?;
+        self.last = Some(n);
+        Ok(())
     }
 }

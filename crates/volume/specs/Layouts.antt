@@ -26,6 +26,14 @@ BlockAt l p r = MatchOption r ((n : ℕ) → n < l.count → l.place n ≢ p) (�
 abbrev pub fitting : ℕ → ℕ → ℕ → ℕ
 fitting needed there count = cond (nat_le needed there) count 0
 
+-- where block n lies on what has so many blocks
+abbrev pub place_on : Layout → ℕ → ℕ → Option ℕ
+place_on l there n = cond (nat_lt n (fitting l.total there l.count)) (Some (l.place n)) None
+
+-- r is the layout's block at a block of what has so many, and None where the layout does not fit or there is no such block
+abbrev pub BlockOn : Layout → ℕ → Option ℕ → Option ℕ → Type 0
+BlockOn l there block r = MatchOption block (r ≡ None) (λ m. cond (nat_le l.total there) (BlockAt l m r) (r ≡ None))
+
 -- the upper's places are blocks of the lower
 abbrev pub layered : Layout → Layout → Layout
 layered upper lower = record {

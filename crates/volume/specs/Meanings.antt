@@ -1,9 +1,9 @@
 -- What a volume means, and what a read and a write of block n answer and leave.
-use Rattle.std.specs.Prelude.{◌≡◌, ℕ, ◌<◌, ◌≤◌, Bool, cond, List, length, ◌==◌, nat_lt}
-use Rattle.volume.specs.declared.answers.ReadAnswer.{ReadAnswer}
-use Rattle.volume.specs.declared.answers.ReadAnswer.TheVariants as reads
-use Rattle.volume.specs.declared.answers.WriteAnswer.{WriteAnswer}
-use Rattle.volume.specs.declared.answers.WriteAnswer.TheVariants as writes
+use Rattle.std.specs.Prelude.{◌≡◌, ℕ, ◌<◌, ◌≤◌, Bool, cond, List, length, Ok, Err, Result, ◌==◌, nat_lt}
+use Rattle.volume.specs.declared.answers.ReadRefusal.{ReadRefusal}
+use Rattle.volume.specs.declared.answers.ReadRefusal.TheVariants as reads
+use Rattle.volume.specs.declared.answers.WriteRefusal.{WriteRefusal}
+use Rattle.volume.specs.declared.answers.WriteRefusal.TheVariants as writes
 
 -- a block is its bytes, or lost
 pub data Block : Type 0 where
@@ -31,16 +31,16 @@ block_of m n = m.bottom (m.place n)
 
 -- Reading
 
-abbrev pub answer_of : Block → ReadAnswer
-answer_of (sound bytes) = reads.Done
-answer_of lost = reads.Lost
+abbrev pub answer_of : Block → Result (Unit {0}) ReadRefusal
+answer_of (sound bytes) = Ok tt
+answer_of lost = Err reads.Lost
 
 abbrev pub bytes_or : List ℕ → Block → List ℕ
 bytes_or before (sound bytes) = bytes
 bytes_or before lost = before
 
-abbrev pub read_answer : Meaning → ℕ → ReadAnswer
-read_answer m n = cond (nat_lt n m.count) (answer_of (block_of m n)) reads.Beyond
+abbrev pub read_answer : Meaning → ℕ → Result (Unit {0}) ReadRefusal
+read_answer m n = cond (nat_lt n m.count) (answer_of (block_of m n)) (Err reads.Beyond)
 
 -- the buffer after a read, which held `before`
 abbrev pub read_buffer : Meaning → ℕ → List ℕ → List ℕ
@@ -48,8 +48,8 @@ read_buffer m n before = cond (nat_lt n m.count) (bytes_or before (block_of m n)
 
 -- Writing
 
-abbrev pub write_answer : Meaning → ℕ → WriteAnswer
-write_answer m n = cond (nat_lt n m.count) (cond m.writable writes.Done writes.Protected) writes.Beyond
+abbrev pub write_answer : Meaning → ℕ → Result (Unit {0}) WriteRefusal
+write_answer m n = cond (nat_lt n m.count) (cond m.writable (Ok tt) (Err writes.Protected)) (Err writes.Beyond)
 
 -- a bottom with these bytes at place p, and every other place as it was
 abbrev pub with_block : (ℕ → Block) → ℕ → List ℕ → ℕ → Block

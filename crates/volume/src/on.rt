@@ -18,11 +18,7 @@ impl<U: Placement, L: Placement> Placement for On<U, L> {
     ghost lawful = { λ s. layered_lawful (U.Placement.layout s.upper) (L.Placement.layout s.lower) (U.Placement.lawful s.upper) (L.Placement.lawful s.lower) };
 
     fn count(&self) -> u32 {
-        if self.upper.total() <= self.lower.count() {
-            self.upper.count()
-        } else {
-            0
-        }
+        self.upper.count_on(self.lower.count())
     }
 
     fn total(&self) -> u32 {
@@ -30,22 +26,12 @@ impl<U: Placement, L: Placement> Placement for On<U, L> {
     }
 
     fn place(&self, n: u32) -> Option<u32> {
-        if self.upper.total() > self.lower.count() {
-            return None;
-        }
-        match self.upper.place(n) {
-            Some(middle) => self.lower.place(middle),
-            None => None,
-        }
+        let middle = self.upper.place_on(self.lower.count(), n)?;
+        self.lower.place(middle)
     }
 
     fn block_at(&self, place: u32) -> Option<u32> {
-        if self.upper.total() > self.lower.count() {
-            return None;
-        }
-        match self.lower.block_at(place) {
-            Some(middle) => self.upper.block_at(middle),
-            None => None,
-        }
+        self.upper
+            .block_on(self.lower.count(), self.lower.block_at(place))
     }
 }

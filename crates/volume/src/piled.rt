@@ -3,7 +3,7 @@ ghost use Rattle.std.specs.Prelude.{◌≡◌};
 ghost use Rattle.volume.specs.Layouts.{piled};
 ghost use Rattle.volume.specs.Fits.{piled_sound};
 
-use crate::answers::{ReadAnswer, WriteAnswer};
+use crate::answers::{ReadRefusal, WriteRefusal};
 use crate::{Placement, Volume};
 
 // Block n is the volume's block at n's place. Where the pile's total is more than the volume's count, there is none.
@@ -19,34 +19,27 @@ impl<P: Placement, V: Volume> Volume for Piled<P, V> {
     ghost sound = { λ s. piled_sound (P.Placement.layout s.pile) (V.Volume.meaning s.volume) (P.Placement.lawful s.pile) (V.Volume.sound s.volume) };
 
     fn count(&self) -> u32 {
-        if self.pile.total() <= self.volume.count() {
-            self.pile.count()
-        } else {
-            0
-        }
+        self.pile.count_on(self.volume.count())
     }
 
     fn writable(&self) -> bool {
         self.volume.writable()
     }
 
-    fn read(&self, n: u32, buffer: &mut [u8; 512]) -> ReadAnswer {
-        if self.pile.total() > self.volume.count() {
-            return ReadAnswer::Beyond;
-        }
-        match self.pile.place(n) {
-            Some(place) => self.volume.read(place, buffer),
-            None => ReadAnswer::Beyond,
-        }
+    // Reads and writes ask for the place alike: one function for both would have to turn its answer into refusals of two types.
+    fn read(&self, n: u32, buffer: &mut [u8; 512]) -> Result<(), ReadRefusal> {
+        let place = self
+            .pile
+            .place_on(self.volume.count(), n)
+            .ok_or(ReadRefusal::Beyond)?;
+        self.volume.read(place, buffer)
     }
 
-    fn write(&mut self, n: u32, bytes: &[u8; 512]) -> WriteAnswer {
-        if self.pile.total() > self.volume.count() {
-            return WriteAnswer::Beyond;
-        }
-        match self.pile.place(n) {
-            Some(place) => self.volume.write(place, bytes),
-            None => WriteAnswer::Beyond,
-        }
+    fn write(&mut self, n: u32, bytes: &[u8; 512]) -> Result<(), WriteRefusal> {
+        let place = self
+            .pile
+            .place_on(self.volume.count(), n)
+            .ok_or(WriteRefusal::Beyond)?;
+        self.volume.write(place, bytes)
     }
 }

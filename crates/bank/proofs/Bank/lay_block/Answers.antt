@@ -1,16 +1,11 @@
-use Rattle.std.proofs.Common.{◌≡◌, ◌%◌, vec_items, ap, ◌∙◌}
-use Rattle.bank.specs.Sectors.{settled, overwritten}
-use Rattle.bank.specs.Banks.{all_bytes}
+use Rattle.std.proofs.Common.{vec_items, ◌∙◌, ap}
+use Rattle.bank.specs.Sectors.{overwritten}
 use Rattle.bank.proofs.Settled.{block_laid}
 use Rattle.bank.proofs.Bank.lay_block.Goals as goal
 
-pub returns : goal.returns
-returns c =
+pub returns-in-Some : goal.returns-in-Some
+returns-in-Some c =
     let b = c.hold.new.self in
-    let bytes = vec_items c.hold.new.self.bytes in
-    let n = c.args.n in
-    let block = c.args.block.now in
-    let laid : all_bytes c.lay_half.new.self ≡ settled bytes b.at (overwritten b.held (n % 2) block) = cc in
-    laid
-    ∙ block_laid bytes b.at b.held block n c.hold.ensures.at b.full b.inside c.told-block
-    ∙ ap (λ x. overwritten x n block) c.hold.ensures.all
+    rw (c.lay_half.ensures.sector, c.lay_half.ensures.bytes)
+    (block_laid (vec_items b.bytes) b.held c.args.n b.inside c.in-Some.held c.args.block.now c.in-Some.is c.hold.ensures.held c.told-block
+    ∙ ap (λ x. overwritten x c.args.n c.args.block.now) c.hold.ensures.all)

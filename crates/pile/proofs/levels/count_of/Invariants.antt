@@ -1,6 +1,0 @@
-use Rattle.std.proofs.Common.{◌≡◌, take}
-use Rattle.pile.specs.Piles.{pile_layout}
-use Rattle.pile.proofs.levels.count_of.Given as goal
-
-abbrev pub invariant-loop-upper : goal.invariant-loop-upper
-invariant-loop-upper g l = l.count ≡ (pile_layout g.P.Placement.layout l.bottom (take l.upper-index l.above)).count
