@@ -6,8 +6,8 @@ use Rattle.packet.specs.declared.fault.PacketFault.{PacketFault}
 use Rattle.packet.specs.Commands.{Command, read, write, lock, unlock, initialize_semaphores, status, initialize_area, open_write, open_read, pipe_read, pipe_write, close}
 
 abbrev pub command_of : Coded → Command
-command_of (code.Read z d s) = read z d s
-command_of (code.Write z d s b) = write z d s b.now
+command_of (code.Read at) = read at.size at.drive at.sector
+command_of (code.Write at b) = write at.size at.drive at.sector b.now
 command_of (code.Lock n) = lock n
 command_of (code.Unlock n) = unlock n
 command_of code.InitializeSemaphores = initialize_semaphores

@@ -3,4 +3,3 @@
 pub mod command;
 pub mod decode;
 pub mod fault;
-pub mod part;

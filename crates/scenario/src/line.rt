@@ -1,6 +1,10 @@
 // The lines of a scenario.
+ghost use Rattle.scenario.specs.Kinds.{Names};
+
 use crate::numbers::number;
 use crate::words::{first_number, first_word};
+use placement::shape::Shape;
+use std::str::FromStr;
 
 // What a volume is made of: a house image for reading and writing, one for reading, or a Bank.
 #[derive(Clone, Copy, PartialEq, Eq, Debug)]
@@ -10,51 +14,43 @@ pub enum Kind {
     Bank,
 }
 
+// A word that names no kind.
+#[derive(Clone, Copy, PartialEq, Eq, Debug)]
+pub struct UnknownKind;
+
+impl FromStr for Kind {
+    type Err = UnknownKind;
+
+    ghost from_str_gives = { Names };
+
+    fn from_str(word: &str) -> Result<Kind, UnknownKind> {
+        match word {
+            "work" => Ok(Kind::Work),
+            "shelf" => Ok(Kind::Shelf),
+            "bank" => Ok(Kind::Bank),
+            _ => Err(UnknownKind),
+        }
+    }
+}
+
 // The list is that of the spared tracks, without its brackets; the room is that of the reply buffer, in bytes.
 #[derive(Clone, Copy)]
 pub enum Line<'a> {
     Blank,
-    Volume {
-        kind: Kind,
-        path: &'a str,
-    },
-    Spared {
-        tracks: u32,
-        sectors: u32,
-        firmware: u32,
-        spares: u32,
-        list: &'a str,
-    },
-    Window {
-        offset: u32,
-        count: u32,
-        total: u32,
-    },
-    Packet {
-        room: u32,
-        hex: &'a str,
-    },
+    Volume { kind: Kind, path: &'a str },
+    Spared { shape: Shape, list: &'a str },
+    // As `Window::set` takes them: a placement that is refused has no type to hold them.
+    Window { offset: u32, count: u32, total: u32 },
+    Packet { room: u32, hex: &'a str },
 }
 
 // The reply buffer where a line names none.
 pub const ROOM: u32 = 1025;
 
-fn kind_of(word: &str) -> Option<Kind> {
-    match word {
-        "work" => Some(Kind::Work),
-        "shelf" => Some(Kind::Shelf),
-        "bank" => Some(Kind::Bank),
-        _ => None,
-    }
-}
-
 fn volume_of(text: &str) -> Option<Line<'_>> {
     let (word, path) = first_word(text);
-    let kind = kind_of(word)?;
-    if path.is_empty() {
-        return None;
-    }
-    Some(Line::Volume { kind, path })
+    let kind = word.parse().ok()?;
+    (!path.is_empty()).then_some(Line::Volume { kind, path })
 }
 
 // What stands in the brackets, or the whole text where there are none.
@@ -71,23 +67,20 @@ fn spared_of(text: &str) -> Option<Line<'_>> {
     let (firmware, text) = first_number(text)?;
     let (spares, text) = first_number(text)?;
     let list = in_brackets(text)?;
-    Some(Line::Spared {
+    let shape = Shape {
         tracks,
         sectors,
         firmware,
         spares,
-        list,
-    })
+    };
+    Some(Line::Spared { shape, list })
 }
 
 fn window_of(text: &str) -> Option<Line<'_>> {
     let (offset, text) = first_number(text)?;
     let (count, text) = first_number(text)?;
     let (total, text) = first_number(text)?;
-    if !text.is_empty() {
-        return None;
-    }
-    Some(Line::Window {
+    text.is_empty().then_some(Line::Window {
         offset,
         count,
         total,
@@ -105,18 +98,12 @@ fn packet_of(text: &str) -> Option<Line<'_>> {
     }
     let room = number(first)?;
     let (hex, rest) = first_word(rest);
-    if !rest.is_empty() {
-        return None;
-    }
-    Some(Line::Packet { room, hex })
+    rest.is_empty().then_some(Line::Packet { room, hex })
 }
 
-// What the line says; None where it is not one of a scenario's.
+// What the line says; None where it is not one of a scenario's. A function and no FromStr: a line borrows its text.
 pub fn line_of(text: &str) -> Option<Line<'_>> {
-    let said = match text.split_once('#') {
-        Some((before, _)) => before,
-        None => text,
-    };
+    let said = text.split_once('#').map_or(text, |(before, _)| before);
     let (word, rest) = first_word(said);
     match word {
         "" => Some(Line::Blank),

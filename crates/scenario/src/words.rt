@@ -3,10 +3,10 @@ use crate::numbers::number;
 
 // The first word, and what stands behind it and its blanks.
 pub(crate) fn first_word(text: &str) -> (&str, &str) {
-    let word = text.split_whitespace().next().unwrap_or("");
-    match text.trim_start().strip_prefix(word) {
-        Some(rest) => (word, rest.trim()),
-        None => (word, ""),
+    let text = text.trim_start();
+    match text.split_once(char::is_whitespace) {
+        Some((word, rest)) => (word, rest.trim()),
+        None => (text, ""),
     }
 }
 

@@ -41,12 +41,6 @@ pub fn table() -> [Row; 16]
     ensures listed { result ≡ rows }
     ensures hold { AllByRecursion Holds result }
 {
-    written()
-}
-
-fn written() -> [Row; 16]
-    ensures { result ≡ rows }
-{
     [
         Row::Place {
             block: 1308,

@@ -49,12 +49,6 @@ pub fn session_table() -> [SessionRow; 29]
     ensures listed { result ≡ session_rows }
     ensures hold { AllByRecursion Tells result }
 {
-    written_sessions()
-}
-
-fn written_sessions() -> [SessionRow; 29]
-    ensures { result ≡ session_rows }
-{
     [
         SessionRow::Pointer {
             session: Session::Area10,

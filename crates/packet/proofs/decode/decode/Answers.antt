@@ -1,6 +1,5 @@
-use Rattle.std.proofs.Common.{arith}
-use Rattle.packet.proofs.Again.{said_again}
+use Rattle.packet.proofs.Again.{bytes_said}
 use Rattle.packet.proofs.decode.decode.Goals as goal
 
-pub returns : goal.returns
-returns c = record { says = c.by_code.ensures; back = said_again c.args.packet.now (λ i. let t = c.type_inv.packet i in omega arith) }
+pub returns-clause-back : goal.returns-clause-back
+returns-clause-back c = bytes_said c.args.packet.now c.type_inv.packet
