@@ -11,10 +11,6 @@ use Rattle.model.specs.Sectors.{area_end}
 use Rattle.model.specs.Pipes.{is_writing, is_open, numbered, find, there, unused, lowest_unused, named, lower, closed_named, first_start, next_start, exchanged, inserted, new_pipe}
 use Rattle.model.specs.Gaps.{keeps, gaps, most, no_gap, best_gap}
 
--- of no option at once None and Some
-some_none : {X : Type 0} {P : Type 0} (x : X) (o : Option X) → o ≡ None → o ≡ Some x → P
-some_none x o e f = absurd (let z : ◌≡◌ {A = ℕ} 0 1 = cc in omega arith)
-
 pub all_both : {X : Type 0} (P Q : X → Type 0) (xs : List X) → AllByRecursion P xs → AllByRecursion Q xs → AllByRecursion (λ x. P x × Q x) xs
 all_both P Q [] ps qs = tt
 all_both P Q (x ∷ xs) ps qs = ((ps.0, qs.0), all_both P Q xs ps.1 qs.1)
@@ -73,7 +69,7 @@ pub data Found (p : Pipe) : List Pipe → Type 0 where
   past : {q : Pipe} {ps : List Pipe} → numbered p.number q ≡ false → Found p ps → Found p (q ∷ ps)
 
 pub found_number : (k : ℕ) (p : Pipe) (ps : List Pipe) → find k ps ≡ Some p → k ≡ p.number
-found_number k p [] e = some_none p None refl e
+found_number k p [] e = cc
 found_number k p (q ∷ ps) e = go (numbered k q) refl e (found_number k p ps)
   where
     go : (b : Bool) → numbered k q ≡ b → cond b (Some q) (find k ps) ≡ Some p → (find k ps ≡ Some p → k ≡ p.number) → k ≡ p.number
@@ -81,7 +77,7 @@ found_number k p (q ∷ ps) e = go (numbered k q) refl e (found_number k p ps)
     go false t e i = i e
 
 found_own : (p : Pipe) (ps : List Pipe) → find p.number ps ≡ Some p → Found p ps
-found_own p [] e = some_none p None refl e
+found_own p [] e = cc
 found_own p (q ∷ ps) e = go (numbered p.number q) refl e (found_own p ps)
   where
     go : (b : Bool) → numbered p.number q ≡ b → cond b (Some q) (find p.number ps) ≡ Some p → (find p.number ps ≡ Some p → Found p ps) → Found p (q ∷ ps)
@@ -104,7 +100,7 @@ absent P Q k other [] e h = tt
 absent P Q k other (q ∷ ps) e h = go (numbered k q) refl e (absent P Q k other ps)
   where
     go : (b : Bool) → numbered k q ≡ b → cond b (Some q) (find k ps) ≡ None → (find k ps ≡ None → AllByRecursion P ps → AllByRecursion Q ps) → AllByRecursion Q (q ∷ ps)
-    go true t e i = some_none q (Some q) e refl
+    go true t e i = cc
     go false t e i = (other q t h.0, i e h.1)
 
 -- Pipe p gives way to those of qs.
@@ -128,7 +124,7 @@ module _ (p : Pipe) (qs : List Pipe) where
   find-exchanged new x d (past {q = q} {ps = ps} e f) n = rw e (go (eqb x q.number) refl n (find-exchanged new x d f))
     where
       go : (b : Bool) → eqb x q.number ≡ b → cond b (Some q) (find x ps) ≡ None → (find x ps ≡ None → find x (exchanged p.number qs ps) ≡ None) → cond (eqb x q.number) (Some q) (find x (exchanged p.number qs ps)) ≡ None
-      go true t e i = some_none q (Some q) e refl
+      go true t e i = cc
       go false t e i = rw t (i e)
 
   once_exchanged : Only → ((rest : List Pipe) → find p.number rest ≡ None → EachOnce rest → EachOnce (qs ++ rest)) → {ps : List Pipe} → Found p ps → EachOnce ps → EachOnce (exchanged p.number qs ps)
@@ -163,11 +159,11 @@ module _ (p : Pipe) where
   once_inserted (suc n) (q ∷ ps) e s = go (numbered p.number q) refl e (once_inserted n ps)
     where
       go : (b : Bool) → numbered p.number q ≡ b → cond b (Some q) (find p.number ps) ≡ None → (find p.number ps ≡ None → EachOnce ps → EachOnce (inserted n p ps)) → EachOnce (q ∷ inserted n p ps)
-      go true t e i = some_none q (Some q) e refl
+      go true t e i = cc
       go false t e i = (find-inserted q.number (ne_eqb _ _ (λ h. eqb-false _ _ t (sym h))) n ps ∙ s.0, i e s.1)
 
 unused_absent : (n i k : ℕ) (ps : List Pipe) → unused n i ps ≡ Some k → find k ps ≡ None
-unused_absent zero i k ps e = some_none k None refl e
+unused_absent zero i k ps e = cc
 unused_absent (suc n) i k ps e = go (find i ps) refl e (unused_absent n (suc i) k ps)
   where
     go : (o : Option Pipe) → find i ps ≡ o → cond (there o) (unused n (suc i) ps) (Some i) ≡ Some k → (unused n (suc i) ps ≡ Some k → find k ps ≡ None) → find k ps ≡ None
@@ -179,7 +175,7 @@ lowest_absent k ps = go (ltb (length ps) 62)
   where
     go : (b : Bool) → cond b (unused 62 1 ps) None ≡ Some k → find k ps ≡ None
     go true e = unused_absent 62 1 k ps e
-    go false e = some_none k None refl e
+    go false e = cc
 
 -- The new pipe lies in its gap.
 
@@ -235,14 +231,14 @@ found_find (past e f) = rw e (found_find f)
 
 -- what Open Read picks stands in the table: each number stands once, so it is the first of its number
 pub closed_found : (n : ℕ) (p : Pipe) (ps : List Pipe) → EachOnce ps → closed_named n ps ≡ Some p → Found p ps
-closed_found n p [] s e = some_none p None refl e
+closed_found n p [] s e = cc
 closed_found n p (q ∷ ps) s e = go (named n q && not (is_open q.access)) (closed_named n ps) refl e (closed_found n p ps s.1)
   where
     first : q ≡ p → Found p (q ∷ ps)
     first same = subst (λ x. Found p (x ∷ ps)) (sym same) here
 
     later : Found p ps → Found p (q ∷ ps)
-    later f = past (ne_eqb _ _ (λ h. let z : ◌≡◌ {A = ℕ} 0 1 = cc (found_find f, s.0, h) in absurd (omega arith))) f
+    later f = past (ne_eqb _ _ (λ h. cc (found_find f, s.0, h))) f
 
     either : (r : Pipe) (b : Bool) → closed_named n ps ≡ Some r → Some (cond b q r) ≡ Some p → (closed_named n ps ≡ Some p → Found p ps) → Found p (q ∷ ps)
     either r true t e i = first cc

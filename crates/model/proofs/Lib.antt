@@ -6,3 +6,4 @@ mod Standing
 mod PipeLaw
 mod BlockLaw
 pub mod Whole
+pub mod Finding

@@ -1,6 +1,6 @@
 -- Rows of eight bytes, written one behind the other.
 use Rattle.std.proofs.Common.{◌≡◌, ℕ, ◌+◌, ◌*◌, ◌<◌, ◌≤◌, List, [], ◌∷◌, ◌++◌, length, get_or, take, sym, refl, ap, ◌∙◌, arith}
-use Rattle.std.proofs.lemmas.List.{append_assoc, append-nil, length-append, length-take-le, take_more, take_all}
+use Rattle.std.proofs.lemmas.List.{append_assoc, append-nil, length-append, length-take-le, take_more}
 use Rattle.volume.specs.Parts.{with_part}
 use Rattle.model.specs.Tables.{bytes_of}
 use Rattle.status.proofs.Parts.{part_more}
@@ -16,13 +16,11 @@ module _ {X : Type 0} (f : X → List ℕ) where
     length-bytes_of (x ∷ xs) = omega (arith, length-append (f x) (bytes_of f xs), eight x, length-bytes_of xs)
 
     -- after i rows, one more
-    pub row_more : (b out next : List ℕ) (from at : ℕ) (xs : List X) (i : ℕ) (x : X) (row : List ℕ) → from + 8 * length xs ≤ length b → i < length xs → at ≡ from + 8 * i → out ≡ with_part b from (bytes_of f (take i xs)) → x ≡ get_or xs i x → row ≡ f x → next ≡ with_part out at row → next ≡ with_part b from (bytes_of f (take (i + 1) xs))
-    row_more b out next from at xs i x row fits inside place is item told put =
+    pub row_more : (b out next : List ℕ) (from : ℕ) (xs : List X) (i : ℕ) (x : X) (row : List ℕ) → from + 8 * length xs ≤ length b → i < length xs → out ≡ with_part b from (bytes_of f (take i xs)) → x ≡ get_or xs i x → row ≡ f x → next ≡ with_part out (from + 8 * i) row → next ≡ with_part b from (bytes_of f (take (i + 1) xs))
+    row_more b out next from xs i x row fits inside is item told put =
+        let at = from + 8 * i in
         let wide = length-bytes_of (take i xs) in
         let few = length-take-le i xs (omega arith) in
         let push : bytes_of f (take (i + 1) xs) ≡ bytes_of f (take i xs) ++ row =
         ap (bytes_of f) (take_more xs i x inside ∙ ap (λ y. take i xs ++ y ∷ []) (sym item)) ∙ bytes_of_push (take i xs) x ∙ ap (λ r. bytes_of f (take i xs) ++ r) (sym told) in
         put ∙ ap (λ o. with_part o at row) is ∙ part_more b from (bytes_of f (take i xs)) row at (omega arith) (omega arith) ∙ ap (with_part b from) (sym push)
-
-    pub rows_all : (b out : List ℕ) (from : ℕ) (xs : List X) (i : ℕ) → length xs ≤ i → out ≡ with_part b from (bytes_of f (take i xs)) → out ≡ with_part b from (bytes_of f xs)
-    rows_all b out from xs i all is = is ∙ ap (λ l. with_part b from (bytes_of f l)) (take_all i xs all)

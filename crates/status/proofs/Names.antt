@@ -1,53 +1,38 @@
--- The name of a number, found by a loop over the pipes, and the names of all entries.
-use Rattle.std.proofs.Common.{◌≡◌, ℕ, zero, suc, ◌+◌, ◌*◌, ◌<◌, ◌≤◌, true, cond, List, [], ◌∷◌, ◌++◌, map, length, get_or, drop, set, is_some, Some, None, Option, sym, refl, ap, ◌∙◌, add-zero, zero-add, arith}
-use Rattle.std.proofs.lemmas.List.Edits.{fill_by_more}
-use Rattle.std.proofs.lemmas.List.{at_drop_more, at_drop_all, ext_get_or, get_or-map, length-map, length-replicate, length-set}
-use Rattle.std.proofs.lemmas.Bool.{eq-eqb, ne_eqb, cond-true, cond-false, false≢true}
+-- The name of a number, and the names of all entries.
+use Rattle.std.proofs.Common.{◌≡◌, ℕ, zero, suc, ◌+◌, ◌*◌, ◌<◌, ◌≤◌, List, [], ◌∷◌, ◌++◌, map, length, drop, Some, None, Option, MatchOption, Bor, sym, refl, ap, ◌∙◌, subst, arith}
+use denote.Param.Members.{Mut}
+use Rattle.std.specs.Array.{IsFromFnResultFrom}
+use Rattle.std.specs.Fn.{Called}
+use Rattle.std.specs.Option.{option_map}
+use Rattle.std.proofs.lemmas.List.{drop_more, drop_all, length-map, length-replicate}
 use Rattle.packet.specs.Packets.{name_bytes}
 use Rattle.model.specs.declared.pipe.Area.{Area}
 use Rattle.model.specs.declared.pipe.Pipe.{Pipe}
 use Rattle.model.specs.Semaphores.{blank}
-use Rattle.model.specs.Pipes.{find, numbered}
 use Rattle.model.specs.Tables.{bytes_of, pipe_name, entry_name, counting, name_table}
 use Rattle.status.specs.Written.{entry_names}
 
--- no pipe before the i-th has the number
-module _ (k : ℕ) (ps : List Pipe) (i : ℕ) (d : Pipe) (inside : i < length ps) (same : find k (drop i ps) ≡ find k ps) where
-  here : find k (drop i ps) ≡ cond (numbered k (get_or ps i d)) (Some (get_or ps i d)) (find k (drop (i + 1) ps))
-  here = at_drop_more (find k) ps i d inside
-
-  pub name_found : (get_or ps i d).number ≡ k → (get_or ps i d).name ≡ pipe_name (find k ps)
-  name_found e = sym (ap pipe_name (sym same ∙ here ∙ cond-true _ _ _ (eq-eqb _ _ (sym e))))
-
-  pub find_more : ((get_or ps i d).number ≡ k → ⊥) → find k (drop (i + 1) ps) ≡ find k ps
-  find_more ne = sym (cond-false _ _ _ (ne_eqb _ _ (λ e. ne (sym e)))) ∙ sym here ∙ same
-
-pub name_none : (k : ℕ) (ps : List Pipe) (i : ℕ) → length ps ≤ i → find k (drop i ps) ≡ find k ps → blank ≡ pipe_name (find k ps)
-name_none k ps i past same = sym (ap pipe_name (sym same ∙ at_drop_all (find k) ps i past))
+-- the name of what `find` gave, or blanks
+pub name_told : {P : Bor Pipe → Type 0} (o' : Option Pipe) (o : Option (Bor Pipe)) (n : ℕ) (r : ℕ) → option_map (λ p. p.now) o ≡ o' → MatchOption o (r ≡ n) P → ((p : Bor Pipe) → P p → r ≡ p.now.name) → n ≡ blank → r ≡ pipe_name o'
+name_told o' None n r e h named none = h ∙ none ∙ ap pipe_name e
+name_told o' (Some p) n r e h named none = named p h ∙ ap pipe_name e
 
 length-counting : (n k : ℕ) → length (counting n k) ≡ n
 length-counting zero k = refl
 length-counting (suc n) k = ap suc (length-counting n (suc k))
 
-get_or_counting : (n k i d : ℕ) → i < n → get_or (counting n k) i d ≡ k + i
-get_or_counting zero k i d l = absurd (omega arith)
-get_or_counting (suc n) k zero d l = sym (add-zero k)
-get_or_counting (suc n) k (suc i) d l = let e = get_or_counting n (suc k) i d (omega arith) in omega arith
+-- what `from_fn` made is f of each number, where each call of its closure g gives that
+pub numbers_named : {F : Type 0} (g : Mut F (ℕ × Unit {0}) ℕ) (f : ℕ → ℕ) (xs : List ℕ) (c : F) (i n : ℕ) → length xs ≡ i + n → i + n ≤ 64 → ((k x : ℕ) (d : F) → k < 64 → Called g c (k, tt) x d → (d ≡ c) × (x ≡ f k)) → IsFromFnResultFrom g c xs i n → drop i xs ≡ map f (counting n i)
+numbers_named g f xs c i zero long few told made = drop_all i xs (omega arith)
+numbers_named {F} g f xs c i (suc n) long few told made =
+    let call = told i made.1 made.0 (omega arith) made.3 in
+    let rest = subst (λ (d : F). IsFromFnResultFrom g d xs (i + 1) n) call.0 made.4 in
+    let one : i + 1 ≡ suc i = omega arith in
+    drop_more xs i made.1 (omega arith) ∙ ap (λ x. x ∷ drop (i + 1) xs) (made.2.0 ∙ call.1)
+    ∙ ap (λ l. f i ∷ l) (numbers_named g f xs c (i + 1) n (omega arith) (omega arith) told rest ∙ ap (λ k. map f (counting n k)) one)
 
--- f of each number, written at its place
-pub counted_more : (f : ℕ → ℕ) (n : ℕ) (xs : List ℕ) (i at x : ℕ) → i < n → at ≡ i → x ≡ f i → (length xs ≡ n) × ((k : ℕ) → k < i → get_or xs k 0 ≡ f k) → (length (set xs at x) ≡ n) × ((k : ℕ) → k < i + 1 → get_or (set xs at x) k 0 ≡ f k)
-counted_more f n xs i at x l place is told =
-    (length-set xs at x ∙ told.0, rw (place, is) (fill_by_more f xs i 0 (omega (arith, told.0)) told.1))
-
-counted_all : (f : ℕ → ℕ) (n : ℕ) (xs : List ℕ) → length xs ≡ n → ((k : ℕ) → k < n → get_or xs k 0 ≡ f k) → xs ≡ map f (counting n 0)
-counted_all f n xs long told =
-    let count = length-counting n 0 in
-    ext_get_or 0 xs (map f (counting n 0)) (long ∙ sym (length-map (counting n 0) f ∙ count))
-    (λ i l. told i (omega arith) ∙ sym (get_or-map f (counting n 0) i 0 0 (omega arith) ∙ ap f (get_or_counting n 0 i 0 (omega arith) ∙ zero-add i)))
-
-pub entries_named : (area : Option Area) (ps : List Pipe) (xs : List ℕ) (i : ℕ) → is_some area ≡ true → 64 ≤ i → (length xs ≡ 64) × ((k : ℕ) → k < i → get_or xs k 0 ≡ entry_name ps k) → xs ≡ entry_names area ps
-entries_named None ps xs i there past told = absurd (false≢true there)
-entries_named (Some a) ps xs i there past told = counted_all (entry_name ps) 64 xs told.0 (λ k l. told.1 k (omega arith))
+pub entries_named : (area : Option Area) (ps : List Pipe) (xs : List ℕ) (a : Area) → area ≡ Some a → xs ≡ map (entry_name ps) (counting 64 0) → xs ≡ entry_names area ps
+entries_named area ps xs a is told = told ∙ ap (λ o. entry_names o ps) (sym is)
 
 bytes_of-map : {X Y : Type 0} (f : Y → List ℕ) (g : X → Y) (xs : List X) → bytes_of f (map g xs) ≡ bytes_of (λ x. f (g x)) xs
 bytes_of-map f g [] = refl

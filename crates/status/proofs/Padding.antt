@@ -1,6 +1,6 @@
 -- The pointer table: its entries over zeros.
-use Rattle.std.proofs.Common.{◌≡◌, ℕ, ◌+◌, ◌-◌, ◌*◌, ◌≤◌, List, ◌++◌, length, drop, replicate, Some, Option, sym, refl, ap, ◌∙◌, arith}
-use Rattle.std.proofs.lemmas.List.{append_assoc, length-append, length-replicate, drop-append-le, drop-replicate}
+use Rattle.std.proofs.Common.{◌≡◌, ℕ, ◌+◌, ◌*◌, ◌≤◌, List, ◌++◌, length, replicate, Some, Option, sym, refl, ap, ◌∙◌, arith, rules}
+use Rattle.std.proofs.lemmas.List.{places, same_lists, append_assoc, length-append}
 use Rattle.build.specs.Builds.{front}
 use Rattle.volume.specs.Parts.{with_part}
 use Rattle.model.specs.declared.pipe.Area.{Area}
@@ -12,16 +12,11 @@ use Rattle.status.proofs.Parts.{part_more, part-front}
 use Rattle.status.proofs.EightBytes.{length-bytes_of}
 
 pub length-padded : (n : ℕ) (xs : List ℕ) → length xs ≤ n → length (padded n xs) ≡ n
-length-padded n xs few = omega (arith, length-append xs (replicate (n - length xs) 0), length-replicate {A = ℕ} (n - length xs) 0)
+length-padded n xs few = search (rules, places)
 
 -- bytes over n zeros are those bytes with zeros behind them
 over_zeros : (n : ℕ) (b xs : List ℕ) → length xs ≤ n → front xs (front (replicate n 0) b) ≡ front (padded n xs) b
-over_zeros n b xs few =
-    let zeros = replicate n 0 in
-    let rest = drop (length zeros) b in
-    let many : length zeros ≡ n = length-replicate n 0 in
-    ap (λ l. xs ++ l) (drop-append-le (length xs) zeros rest (omega arith) ∙ ap (λ l. l ++ rest) (drop-replicate (length xs) n 0)) ∙
-    sym (append_assoc xs (replicate (n - length xs) 0) rest) ∙ ap (λ k. padded n xs ++ drop k b) (many ∙ sym (length-padded n xs few))
+over_zeros n b xs few = same_lists _ _ (search (rules, places)) (λ k d h. grind (arith, places))
 
 -- three parts, one behind the other, from the first byte on
 three_parts : (b o₁ o₂ o₃ s t u : List ℕ) (n m : ℕ) → o₁ ≡ with_part b 0 s → o₂ ≡ with_part o₁ n t → o₃ ≡ with_part o₂ m u → n ≡ length s → m ≡ length s + length t → length s + length t ≤ length b → o₃ ≡ front (s ++ (t ++ u)) b

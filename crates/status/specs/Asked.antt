@@ -14,6 +14,10 @@ askable names pipes selector room = nat_le selector 3 && (nat_le 1024 room && (n
 abbrev pub asked_length : ℕ → ℕ
 asked_length selector = cond (selector == 0) 1024 (cond (selector == 1) 512 (cond (selector == 2) 512 256))
 
+-- of tables of the controller's sizes, in a buffer with room
+abbrev pub selected_number : ℕ → Option ℕ
+selected_number selector = cond (nat_le selector 3) (Some (asked_length selector)) None
+
 module _ (names : List ℕ) (a : Option Area) (ps : List Pipe) (selector : ℕ) (buffer : List ℕ) where
   abbrev asked : Bool
   asked = askable (length names) (length ps) selector (length buffer)

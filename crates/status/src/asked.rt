@@ -1,84 +1,77 @@
 // The tables that a Status asks for by its selector.
-ghost use Rattle.std.specs.Prelude.{◌≡◌, ◌≤◌, ◌++◌, length};
+ghost use Rattle.std.specs.Prelude.{◌≡◌, ◌≤◌, ◌++◌, length, nat_le};
 ghost use Rattle.build.specs.Builds.{front};
 ghost use Rattle.model.specs.Tables.{name_table, pointer_table, tables_asked};
-ghost use Rattle.status.specs.Asked.{askable, asked_length, asked_answer, asked_number, after_asked};
+ghost use Rattle.status.specs.Written.{after_table};
+ghost use Rattle.status.specs.Asked.{asked_answer, asked_number, after_asked, selected_number};
 
+use crate::entries::Entries;
 use crate::rows::put_rows;
-use crate::{entry_names, put_pointers};
-use model::pipe::{Area, Pipe};
 
-fn put_entry_names(area: Option<Area>, pipes: &[Pipe], out: &mut [u8])
-    requires { 512 ≤ length out.old }
-    ensures { out.new ≡ front (name_table area pipes.now) out.old }
-{
-    put_rows(&entry_names(area, pipes), 0, out);
+// The tables, of whatever sizes.
+#[derive(Clone, Copy)]
+pub struct Tables<'a> {
+    pub names: &'a [u64],
+    pub entries: Entries<'a>,
 }
 
-// The names, then the pointers.
-fn put_both(area: Option<Area>, pipes: &[Pipe], out: &mut [u8])
-    requires room { 1024 ≤ length out.old }
-    requires few { length pipes.now ≤ 62 }
-    ensures { out.new ≡ front (name_table area pipes.now ++ pointer_table area pipes.now) out.old }
-{
-    put_entry_names(area, pipes, out);
-    put_pointers(area, pipes, &mut out[512..]);
+// The tables of the controller's sizes.
+#[derive(Clone, Copy)]
+struct Whole<'a> {
+    names: &'a [u64],
+    entries: Entries<'a>,
+    ghost all: { length names.now ≡ 32 },
+    ghost few: { length entries.pipes.now ≤ 62 },
 }
 
-fn put_asked(
-    names: &[u64],
-    area: Option<Area>,
-    pipes: &[Pipe],
-    selector: u8,
-    out: &mut [u8],
-) -> usize
-    requires room { 1024 ≤ length out.old }
-    requires all { length names.now ≡ 32 }
-    requires few { length pipes.now ≤ 62 }
-    ensures long { result ≡ asked_length selector }
-    ensures after { out.new ≡ front (tables_asked names.now area pipes.now selector) out.old }
-{
-    match selector {
-        0 => {
-            put_both(area, pipes, out);
-            1024
-        }
-        1 => {
-            put_entry_names(area, pipes, out);
-            512
-        }
-        2 => {
-            put_pointers(area, pipes, out);
-            512
-        }
-        _ => {
-            put_rows(names, 0, out);
-            256
+impl Whole<'_> {
+    // The names of the entries, then their pointers.
+    fn put_both(&self, out: &mut [u8; 1024])
+        ensures { out.new ≡ front (name_table self.now.entries.area self.now.entries.pipes.now ++ pointer_table self.now.entries.area self.now.entries.pipes.now) out.old }
+    {
+        self.entries.write_names(out);
+        self.entries.write_pointers(&mut out[512..]);
+    }
+
+    // A selector is a byte of the packet, and any byte must be answered: an enum would only put a test before this match.
+    fn put(&self, selector: u8, out: &mut [u8; 1024]) -> Option<usize>
+        ensures number { result ≡ selected_number selector }
+        ensures after { out.new ≡ after_table (nat_le selector 3) (tables_asked self.now.names.now self.now.entries.area self.now.entries.pipes.now selector) out.old }
+    {
+        match selector {
+            0 => {
+                self.put_both(out);
+                Some(1024)
+            }
+            1 => {
+                self.entries.write_names(out);
+                Some(512)
+            }
+            2 => {
+                self.entries.write_pointers(out);
+                Some(512)
+            }
+            3 => {
+                put_rows(self.names, 0, out);
+                Some(256)
+            }
+            _ => None,
         }
     }
 }
 
-fn is_askable(names: &[u64], pipes: &[Pipe], selector: u8, room: usize) -> bool
-    ensures { result ≡ askable (length names.now) (length pipes.now) selector room }
-{
-    selector <= 3 && room >= 1024 && names.len() == 32 && pipes.len() <= 62
-}
-
+// No heap while serving: the caller's buffer, and how much of it is the answer.
 // The tables that the selector asks for, and how many bytes they are. None, and nothing written, where there is no such selector,
-// the buffer has fewer bytes than the longest answer, or the tables are not of the controller's size.
-pub fn put_tables(
-    names: &[u64],
-    area: Option<Area>,
-    pipes: &[Pipe],
-    selector: u8,
-    out: &mut [u8],
-) -> Option<usize>
-    ensures answer { result ≡ asked_answer names.now area pipes.now selector out.old }
-    ensures number { result ≡ asked_number names.now area pipes.now selector out.old }
-    ensures after { out.new ≡ after_asked names.now area pipes.now selector out.old }
+// the buffer has fewer bytes than the longest answer, or the tables are not of the controller's sizes.
+pub fn put_tables(tables: &Tables, selector: u8, out: &mut [u8]) -> Option<usize>
+    ensures answer { result ≡ asked_answer tables.now.names.now tables.now.entries.area tables.now.entries.pipes.now selector out.old }
+    ensures number { result ≡ asked_number tables.now.names.now tables.now.entries.area tables.now.entries.pipes.now selector out.old }
+    ensures after { out.new ≡ after_asked tables.now.names.now tables.now.entries.area tables.now.entries.pipes.now selector out.old }
 {
-    if !is_askable(names, pipes, selector, out.len()) {
+    let Tables { names, entries } = *tables;
+    if names.len() != 32 || entries.pipes.len() > 62 {
         return None;
     }
-    Some(put_asked(names, area, pipes, selector, out))
+    let front = out.first_chunk_mut::<1024>()?;
+    Whole { names, entries }.put(selector, front)
 }

@@ -1,7 +1,6 @@
 // An entry of the pointer table as its eight bytes.
-ghost use Rattle.std.specs.Prelude.{◌≡◌};
+ghost use Rattle.std.specs.Prelude.{refl, ◌≡◌};
 ghost use Rattle.model.specs.Tables.{byte_address, pointer, end_pointer, pipe_pointer};
-ghost use Rattle.std.proofs.Common.{rules};
 
 use crate::rows::Row;
 use crate::state_of;
@@ -32,7 +31,7 @@ pub(crate) fn end_pointer(number: u8, at: u32) -> [u8; 8]
 impl Row for Pipe {
     ghost bytes = { pipe_pointer };
 
-    ghost eight = { Prim.search rules };
+    ghost eight = { λ _. refl };
 
     fn row(&self) -> [u8; 8] {
         pointer_of(self.number, self.start, self.end, state_of(*self))

@@ -1,5 +1,6 @@
 // Rows of eight bytes, one behind the other.
-ghost use Rattle.std.specs.Prelude.{◌≡◌, ℕ, ◌+◌, ◌*◌, ◌≤◌, List, length};
+ghost use Rattle.std.specs.Prelude.{refl, ◌≡◌, ℕ, ◌+◌, ◌*◌, ◌≤◌, List, length};
+ghost use Rattle.packet.specs.Packets.{name_bytes};
 ghost use Rattle.volume.specs.Parts.{with_part};
 ghost use Rattle.model.specs.Tables.{bytes_of};
 
@@ -13,6 +14,16 @@ pub(crate) trait Row {
     ghost eight: { (x : Self) → length (bytes x) ≡ 8 };
 }
 
+impl Row for u64 {
+    ghost bytes = { name_bytes };
+
+    ghost eight = { λ _. refl };
+
+    fn row(&self) -> [u8; 8] {
+        self.to_be_bytes()
+    }
+}
+
 pub(crate) fn put_row(row: &[u8; 8], at: usize, out: &mut [u8])
     requires { at + 8 ≤ length out.old }
     ensures { out.new ≡ with_part out.old at row.now }
@@ -20,13 +31,12 @@ pub(crate) fn put_row(row: &[u8; 8], at: usize, out: &mut [u8])
     out[at..at + 8].copy_from_slice(row);
 }
 
+// Not `chunks_exact_mut`: what is written through it is not known afterwards.
 pub(crate) fn put_rows<R: Row>(rows: &[R], from: usize, out: &mut [u8])
     requires { from + 8 * length rows.now ≤ length out.old }
     ensures { out.new ≡ with_part out.old from (bytes_of R.bytes rows.now) }
 {
-    let mut at = from;
-    for row in rows {
-        put_row(&row.row(), at, out);
-        at += 8;
+    for (i, row) in rows.iter().enumerate() {
+        put_row(&row.row(), from + 8 * i, out);
     }
 }

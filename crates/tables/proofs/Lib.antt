@@ -1,5 +1,5 @@
+pub mod Closed
 pub mod Firsts
-pub mod Found
-pub mod Moves
+pub mod Locks
 pub mod Numbers
 pub mod Walks

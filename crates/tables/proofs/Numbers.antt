@@ -1,33 +1,23 @@
 -- What a number or a name finds among the pipes.
-use Rattle.std.proofs.Common.{◌≡◌, ℕ, suc, ◌+◌, ◌-◌, ◌<◌, ◌≤◌, min, Bool, true, false, ltb, List, [], ◌∷◌, length, get_or, take, drop, set, is_some, Some, None, Option, sym, refl, ap, ◌∙◌, subst, ⊎_elim, arith}
-use lib.Seq.{take-set-lt}
-use Rattle.std.specs.List.{remove}
-use Rattle.std.proofs.lemmas.List.{get_or-take, length-take-le, take_rest}
-use Rattle.std.proofs.lemmas.Bool.{cond-true, cond-false, cases_lt, lt-ltb, le-ltb}
+use Rattle.std.proofs.Common.{◌≡◌, ℕ, zero, suc, ◌+◌, ◌<◌, ◌≤◌, min, Bool, true, false, List, [], ◌∷◌, length, drop, set, is_some, Some, None, Option, MatchOption, sym, refl, ap, ◌∙◌, ⊎_elim, ◌||◌, Bor, arith}
+use Rattle.std.specs.List.{insert, refill, list_any}
+use Rattle.std.specs.Option.{option_copied, option_map}
+use Rattle.std.proofs.lemmas.List.{set_split, length-set, take_at}
+use Rattle.std.proofs.lemmas.List.Recursion.{same_from_clauses}
+use Rattle.std.proofs.lemmas.Bool.{cond-true, cond-false, cases_lt}
 use Rattle.model.specs.declared.pipe.Pipe.{Pipe}
-use Rattle.model.specs.declared.pipe.Access.TheVariants.{Closed}
 use Rattle.model.specs.Pipes.{numbered, find, there, any, first_start, next_start, exchanged, inserted, unused}
-use Rattle.tables.specs.Places.{later, place, PlaceWithin}
-use Rattle.tables.proofs.Firsts.{by_place, place-within}
-use Rattle.tables.proofs.Found.{instead, instead-set, instead_by, there_by}
-use Rattle.tables.proofs.Moves.{inserted_past}
+use Rattle.tables.specs.Places.{later, place}
+use Rattle.tables.proofs.Firsts.{by_place, instead, instead_by}
 
--- any pipe does
-unused_entry : Pipe
-unused_entry = record { number = 0; name = 0; start = 0; end = 0; access = Closed }
+pub copied_told : (o : Option (Bor Pipe)) → option_copied o ≡ option_map (λ p. p.now) o
+copied_told None = refl
+copied_told (Some p) = refl
 
-abbrev picked : Pipe → Option ℕ → List Pipe → Option Pipe
-picked d None ps = None
-picked d (Some i) ps = Some (get_or ps i d)
+pub any_told : (test : Pipe → Bool) (ps : List Pipe) → list_any test ps ≡ any test ps
+any_told test = same_from_clauses (list_any test) (any test) (λ p b. test p || b) refl (λ _ _. refl) (λ _ _. refl)
 
-picked-later : (d : Pipe) (o : Option ℕ) (p : Pipe) (ps : List Pipe) → picked d o ps ≡ picked d (later o) (p ∷ ps)
-picked-later d None p ps = refl
-picked-later d (Some i) p ps = refl
-
-find-place : (k : ℕ) (d : Pipe) (ps : List Pipe) → find k ps ≡ picked d (place (numbered k) ps) ps
-find-place k d =
-    by_place (numbered k) (λ ps o. find k ps ≡ picked d o ps) refl (λ p ps e. cond-true _ _ _ e)
-    (λ p ps o e h. cond-false _ _ _ e ∙ h ∙ picked-later d o p ps)
+-- The entry behind, and the list with one exchanged or removed
 
 abbrev behind : ℕ → Option ℕ → List Pipe → ℕ
 behind top None ps = top
@@ -37,92 +27,56 @@ behind-later : (top : ℕ) (o : Option ℕ) (p : Pipe) (ps : List Pipe) → behi
 behind-later top None p ps = refl
 behind-later top (Some i) p ps = refl
 
-next_place : (k top : ℕ) (ps : List Pipe) → next_start k ps top ≡ behind top (place (numbered k) ps) ps
-next_place k top =
+next-place : (k top : ℕ) (ps : List Pipe) → next_start k ps top ≡ behind top (place (numbered k) ps) ps
+next-place k top =
     by_place (numbered k) (λ ps o. next_start k ps top ≡ behind top o ps) refl (λ p ps e. cond-true _ _ _ e)
     (λ p ps o e h. cond-false _ _ _ e ∙ h ∙ behind-later top o p ps)
 
-exchanged-place : (k : ℕ) (qs ps : List Pipe) → exchanged k qs ps ≡ instead qs (place (numbered k) ps) ps
-exchanged-place k qs = instead_by (numbered k) (exchanged k qs) qs refl (λ _ _. refl)
+pub next_told : (k top : ℕ) (ps : List Pipe) (o : Option ℕ) → o ≡ place (numbered k) ps → behind top o ps ≡ next_start k ps top
+next_told k top ps o e = ap (λ j. behind top j ps) e ∙ sym (next-place k top ps)
 
--- of the u entries in use, which a search is given as ps
-module _ (k u : ℕ) (es ps : List Pipe) (fits : u ≤ length es) (are : ps ≡ take u es) where
-  at_place : (o : Option ℕ) → o ≡ place (numbered k) ps → place (numbered k) (take u es) ≡ o
-  at_place o e = ap (place (numbered k)) (sym are) ∙ sym e
+pub instead_told : (k : ℕ) (qs ps : List Pipe) (o : Option ℕ) → o ≡ place (numbered k) ps → instead qs o ps ≡ exchanged k qs ps
+instead_told k qs ps o e = ap (λ j. instead qs j ps) e ∙ sym (instead_by (numbered k) (exchanged k qs) qs refl (λ _ _. refl) ps)
 
-  long : length (take u es) ≡ u
-  long = length-take-le u es fits
+refilled : (ps qs : List Pipe) → length qs ≡ length ps → refill (length ps) ps qs ≡ qs
+refilled ps qs e = take_at qs (drop (length qs) ps) (length ps) e
 
-  inside : (i : ℕ) → Some i ≡ place (numbered k) ps → i < u
-  inside i e =
-      let h : i < length (take u es) = subst (λ (o : Option ℕ). PlaceWithin o (length (take u es))) (at_place (Some i) e) (place-within (numbered k) (take u es)) in
-      omega (arith, long)
+pub exchanged_told : (k : ℕ) (q : Pipe) (ps lent : List Pipe) (i : ℕ) → lent ≡ ps → i < length ps → Some i ≡ place (numbered k) ps → refill (length ps) ps (set lent i q) ≡ exchanged k (q ∷ []) ps
+exchanged_told k q ps lent i are inside e =
+    refilled ps (set lent i q) (length-set lent i q ∙ ap length are) ∙ ap (λ l. set l i q) are ∙ set_split ps i q inside ∙ instead_told k (q ∷ []) ps (Some i) e
 
-  pub find_some : (d : Pipe) (i : ℕ) → Some i ≡ place (numbered k) ps → Some (get_or es i d) ≡ find k (take u es)
-  find_some d i e =
-      ap Some (sym (get_or-take u es i d (inside i e))) ∙ ap (λ o. picked d o (take u es)) (sym (at_place (Some i) e)) ∙ sym (find-place k d (take u es))
+-- One more pipe
 
-  pub find_none : None ≡ place (numbered k) ps → None ≡ find k (take u es)
-  find_none e = ap (λ o. picked unused_entry o (take u es)) (sym (at_place None e)) ∙ sym (find-place k unused_entry (take u es))
+pub inserted_told : (n m : ℕ) (p : Pipe) (ps : List Pipe) → m ≡ min n (length ps) → insert ps m p ≡ inserted n p ps
+inserted_told zero m p ps h = let e : m ≡ 0 = omega arith in ap (λ j. insert ps j p) e
+inserted_told (suc n) m p [] h = let e : m ≡ 0 = omega arith in ap (λ j. insert [] j p) e
+inserted_told (suc n) zero p (q ∷ ps) h = absurd (omega arith)
+inserted_told (suc n) (suc m) p (q ∷ ps) h = ap (λ l. q ∷ l) (inserted_told n m p ps (omega arith))
 
-  pub next_some : (top i : ℕ) → Some i ≡ place (numbered k) ps → first_start (take (length ps - (i + 1)) (drop (i + 1) ps)) top ≡ next_start k (take u es) top
-  next_some top i e =
-      let one : i + 1 ≡ suc i = omega arith in
-      ap (λ l. first_start l top) (take_rest ps (i + 1)) ∙ ap (λ j. first_start (drop j ps) top) one
-      ∙ ap (λ o. behind top o ps) e ∙ sym (next_place k top ps) ∙ ap (λ l. next_start k l top) are
-
-  pub next_none : (top : ℕ) → None ≡ place (numbered k) ps → top ≡ next_start k (take u es) top
-  next_none top e = ap (λ o. behind top o (take u es)) (sym (at_place None e)) ∙ sym (next_place k top (take u es))
-
-  pub exchanged_none : (qs : List Pipe) → None ≡ place (numbered k) ps → take u es ≡ exchanged k qs (take u es)
-  exchanged_none qs e = ap (λ o. instead qs o (take u es)) (sym (at_place None e)) ∙ sym (exchanged-place k qs (take u es))
-
-  pub exchanged_some : (q : Pipe) (i : ℕ) → Some i ≡ place (numbered k) ps → take u (set es i q) ≡ exchanged k (q ∷ []) (take u es)
-  exchanged_some q i e =
-      take-set-lt u es i q (inside i e)
-      ∙ sym (instead-set q i (take u es) (omega (arith, long, inside i e)))
-      ∙ ap (λ o. instead (q ∷ []) o (take u es)) (sym (at_place (Some i) e))
-      ∙ sym (exchanged-place k (q ∷ []) (take u es))
-
-  pub removed_some : (i : ℕ) → Some i ≡ place (numbered k) ps → remove (take u es) i ≡ exchanged k [] (take u es)
-  removed_some i e = ap (λ o. instead [] o (take u es)) (sym (at_place (Some i) e)) ∙ sym (exchanged-place k [] (take u es))
-
-is_there : {X : Type 0} (o : Option X) → is_some o ≡ there o
+is_there : {X : Type 0} (o : Option X) → there o ≡ is_some o
 is_there None = refl
 is_there (Some x) = refl
 
-pub any_some : (test : Pipe → Bool) (ps qs : List Pipe) (o : Option ℕ) (r : Bool) → r ≡ is_some o → o ≡ place test ps → ps ≡ qs → r ≡ any test qs
-any_some test ps qs o r some e are = some ∙ is_there o ∙ ap there e ∙ sym (there_by test (any test) refl (λ _ _. refl) ps) ∙ ap (any test) are
+module _ (ps : List Pipe) where
+  abbrev pub Used : ℕ → Type 0
+  Used k = is_some (find k ps) ≡ true
 
--- Room for one more
+  abbrev pub Unused : ℕ → Type 0
+  Unused k = is_some (find k ps) ≡ false
 
-module _ (u : ℕ) (es : List Pipe) (fits : u ≤ length es) where
-  pub has_room : u < 62 → ltb (length (take u es)) 62 ≡ true
-  has_room h = lt-ltb _ _ (omega (arith, length-take-le u es fits))
+  unused_none : (n k : ℕ) → ((j : ℕ) → k ≤ j → j < k + n → Used j) → unused n k ps ≡ None
+  unused_none zero k used = refl
+  unused_none (suc n) k used =
+      cond-true _ _ _ (is_there (find k ps) ∙ used k (omega arith) (omega arith)) ∙ unused_none n (suc k) (λ j h l. used j (omega arith) (omega arith))
 
-  pub no_room : 62 ≤ u → ltb (length (take u es)) 62 ≡ false
-  no_room h = le-ltb _ _ (omega (arith, length-take-le u es fits))
-
-  pub inserted_least : (n : ℕ) (p : Pipe) → inserted (min n u) p (take u es) ≡ inserted n p (take u es)
-  inserted_least n p =
+  unused_some : (n k i : ℕ) → k ≤ i → i < k + n → Unused i → ((j : ℕ) → k ≤ j → j < i → Used j) → unused n k ps ≡ Some i
+  unused_some zero k i h l free used = absurd (omega arith)
+  unused_some (suc n) k i h l free used =
       ⊎_elim
-      (λ h. let e : min n u ≡ n = omega arith in ap (λ j. inserted j p (take u es)) e)
-      (λ h. let e : min n u ≡ length (take u es) = omega (arith, length-take-le u es fits) in ap (λ j. inserted j p (take u es)) e ∙ inserted_past n p (take u es) (omega (arith, length-take-le u es fits)))
-      (cases_lt n u)
+      (λ below. cond-true _ _ _ (is_there (find k ps) ∙ used k (omega arith) below) ∙ unused_some n (suc k) i (omega arith) (omega arith) free (λ j a b. used j (omega arith) b))
+      (λ above. let e : i ≡ k = omega arith in cond-false _ _ _ (is_there (find k ps) ∙ ap (λ j. is_some (find j ps)) (sym e) ∙ free) ∙ ap (λ j. Some j) (sym e))
+      (cases_lt k i)
 
--- The lowest unused number
-
-module _ (ps : List Pipe) (k : ℕ) where
-  pub unused_more : k < 63 → is_some (find k ps) ≡ true → unused (63 - (k + 1)) (k + 1) ps ≡ unused (63 - k) k ps
-  unused_more h e =
-      let n : 63 - k ≡ suc (63 - (k + 1)) = omega arith in
-      let one : k + 1 ≡ suc k = omega arith in
-      sym (ap (λ m. unused m k ps) n ∙ cond-true _ _ _ (sym (is_there (find k ps)) ∙ e) ∙ ap (λ j. unused (63 - (k + 1)) j ps) (sym one))
-
-  pub unused_here : k < 63 → is_some (find k ps) ≡ false → unused (63 - k) k ps ≡ Some k
-  unused_here h e =
-      let n : 63 - k ≡ suc (63 - (k + 1)) = omega arith in
-      ap (λ m. unused m k ps) n ∙ cond-false _ _ _ (sym (is_there (find k ps)) ∙ e)
-
-  pub unused_all : 63 ≤ k → unused (63 - k) k ps ≡ None
-  unused_all h = let n : 63 - k ≡ 0 = omega arith in ap (λ m. unused m k ps) n
+  pub unused_told : (r : Option ℕ) → MatchOption r ((k : ℕ) → 1 ≤ k → k < 63 → Used k) (λ i. (1 ≤ i) × (i < 63) × Unused i × ((k : ℕ) → 1 ≤ k → k < i → Used k)) → r ≡ unused 62 1 ps
+  unused_told None h = sym (unused_none 62 1 (λ j a b. h j a b))
+  unused_told (Some i) h = sym (unused_some 62 1 i h.0 h.1 h.2 h.3)

@@ -1,7 +1,7 @@
 -- The pipes that a pipe table holds.
-use Rattle.std.specs.Prelude.{List, take}
+use Rattle.std.specs.Prelude.{List}
 use Rattle.model.specs.declared.pipe.Pipe.{Pipe}
 use Rattle.tables.specs.declared.pipes.Pipes.{Pipes}
 
 abbrev pub pipes_of : Pipes → List Pipe
-pipes_of t = take t.used t.entries
+pipes_of t = t.entries.items

@@ -1,43 +1,45 @@
-// What the semaphore table answers, and the number of each answer.
+// Why the semaphore table refuses a lock or an unlock, and the result byte of each answer.
 ghost use Rattle.std.specs.Prelude.{◌≡◌};
 ghost use Rattle.tables.specs.Locks.{lock_byte, unlock_byte};
 
+use volume::answers::Refusal;
+
 #[derive(Clone, Copy, PartialEq, Eq, Debug)]
-pub enum LockAnswer {
-    Taken,
-    Present,
-    Full,
-    Blank,
+pub enum LockRefusal {
+    Present = 0x80,
+    Full = 0xFD,
+    Blank = 0x8F,
 }
 
 #[derive(Clone, Copy, PartialEq, Eq, Debug)]
-pub enum UnlockAnswer {
-    Removed,
-    Absent,
-    Blank,
+pub enum UnlockRefusal {
+    Absent = 0x00,
+    Blank = 0x8F,
 }
 
-impl LockAnswer {
-    pub fn byte(self) -> u8
-        ensures { result ≡ lock_byte self }
+impl Refusal for LockRefusal {
+    ghost told = { lock_byte };
+
+    fn byte_of(answer: Result<(), Self>) -> u8
+        ensures { result ≡ lock_byte answer }
     {
-        match self {
-            LockAnswer::Taken => 0x00,
-            LockAnswer::Present => 0x80,
-            LockAnswer::Full => 0xFD,
-            LockAnswer::Blank => 0x8F,
+        match answer {
+            Ok(()) => 0x00,
+            Err(refusal) => refusal as u8,
         }
     }
 }
 
-impl UnlockAnswer {
-    pub fn byte(self) -> u8
-        ensures { result ≡ unlock_byte self }
+// An accepted Unlock is 80h.
+impl Refusal for UnlockRefusal {
+    ghost told = { unlock_byte };
+
+    fn byte_of(answer: Result<(), Self>) -> u8
+        ensures { result ≡ unlock_byte answer }
     {
-        match self {
-            UnlockAnswer::Removed => 0x80,
-            UnlockAnswer::Absent => 0x00,
-            UnlockAnswer::Blank => 0x8F,
+        match answer {
+            Ok(()) => 0x80,
+            Err(refusal) => refusal as u8,
         }
     }
 }

@@ -1,8 +1,21 @@
-use Rattle.std.proofs.Common.{sym, ◌∙◌}
-use Rattle.status.proofs.Selector.{tables_told}
+use Rattle.std.proofs.Common.{◌∙◌, arith}
+use Rattle.status.proofs.Selector.{answer_told, number_told, after_told}
 use Rattle.status.proofs.asked.put_tables.Goals as goal
 
-pub returns : goal.returns
-returns c =
-    let told = tables_told c.args.names.now c.args.area c.args.pipes.now c.args.selector c.args.out.now _ _ (sym c.is_askable.ensures ∙ c.if-not-is_askable.false) c.put_asked.ensures.long c.put_asked.ensures.after in
-    record { answer = told.0; number = told.1; after = told.2 }
+pub returns-clause-answer : goal.returns-clause-answer
+returns-clause-answer c =
+    let t = c.args.tables.now in
+    let first = c.in_ok-front.ensures.cases in
+    c.put.ensures.number ∙ answer_told t.names.now t.entries.area t.entries.pipes.now c.args.selector c.args.out.now first.enough (omega arith) (omega arith)
+
+pub returns-clause-number : goal.returns-clause-number
+returns-clause-number c =
+    let t = c.args.tables.now in
+    let first = c.in_ok-front.ensures.cases in
+    c.put.ensures.number ∙ number_told t.names.now t.entries.area t.entries.pipes.now c.args.selector c.args.out.now first.enough (omega arith) (omega arith)
+
+pub returns-clause-after : goal.returns-clause-after
+returns-clause-after c =
+    let t = c.args.tables.now in
+    let first = c.in_ok-front.ensures.cases in
+    after_told t.names.now t.entries.area t.entries.pipes.now c.args.selector c.args.out.now _ _ first.enough (omega arith) (omega arith) first.same c.put.ensures.after

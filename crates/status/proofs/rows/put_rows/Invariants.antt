@@ -1,7 +1,7 @@
-use Rattle.std.proofs.Common.{◌≡◌, ◌+◌, ◌*◌, take}
+use Rattle.std.proofs.Common.{◌≡◌, take}
 use Rattle.volume.specs.Parts.{with_part}
 use Rattle.model.specs.Tables.{bytes_of}
 use Rattle.status.proofs.rows.put_rows.Given as goal
 
-abbrev pub invariant-loop-row : goal.invariant-loop-row
-invariant-loop-row g l = (l.at ≡ l.from + 8 * l.row-index) × (l.out ≡ with_part l.initial.out l.from (bytes_of g.R.Row.bytes (take l.row-index l.rows)))
+abbrev pub invariant-loop-i : goal.invariant-loop-i
+invariant-loop-i g l = l.out ≡ with_part l.initial.out l.from (bytes_of g.R.Row.bytes (take l.i l.rows))

@@ -1,17 +1,16 @@
-use Rattle.std.proofs.Common.{ap, ◌∙◌}
-use Rattle.model.specs.Pipes.{closed_named}
-use Rattle.tables.proofs.Walks.{closed_none, closed_more, closed_all}
+use Rattle.std.proofs.Common.{◌∙◌, rules, tests}
+use Rattle.std.proofs.lemmas.Iterator.Adapters.{YieldsList-from_rev_slice}
+use Rattle.std.proofs.lemmas.Iterator.Consumers.{YieldsList-at, YieldsList-from_filter}
+use Rattle.tables.specs.Entries.{pipes_of}
+use Rattle.tables.proofs.Closed.{closed, lowest_closed, lowest_picked}
+use Rattle.tables.proofs.Numbers.{copied_told}
 use Rattle.tables.proofs.pipes.Pipes.closed_named.Goals as goal
-
-pub loop-i-init : goal.loop-i-init
-loop-i-init c = closed_none c.args.name c.pipes-pipes.result.now
-
-pub loop-i-preserved : goal.loop-i-preserved
-loop-i-preserved c =
-    closed_more c.args.name c.pipes-pipes.result.now _ c.loop-i.i c.loop-i.best c.closed_or-best.result
-    c.loop-i-test.true c.loop-i.auto.i c.loop-i.invariant c.closed_or-best.ensures
 
 pub returns : goal.returns
 returns c =
-    closed_all c.args.name c.pipes-pipes.result.now c.loop-i.i c.loop-i.best c.loop-i-test.false c.loop-i.invariant
-    ∙ ap (closed_named c.args.name) c.pipes-pipes.ensures
+    let n = c.args.name in
+    let ps = pipes_of c.args.self.now in
+    c.copied.ensures ∙ copied_told c.min_by_key.result
+    ∙ lowest_picked _ _ _ (λ x k q h. search (rules, tests)) _ c.min_by_key.result _ c.min_by_key.ensures.ran
+    (YieldsList-from_filter _ (closed n) (YieldsList-at c.filter.ensures.source (YieldsList-from_rev_slice ps cc)) c.filter.ensures.closure (λ x b q k. search (rules, tests)))
+    ∙ lowest_closed n ps

@@ -1,13 +1,11 @@
-use Rattle.std.proofs.Common.{[], ◌∷◌, arith}
-use Rattle.tables.proofs.Numbers.{exchanged_some, exchanged_none}
+use Rattle.std.proofs.Common.{[], ◌∷◌, None, sym, ◌∙◌}
+use Rattle.tables.specs.Entries.{pipes_of}
+use Rattle.tables.proofs.Numbers.{exchanged_told, instead_told}
 use Rattle.tables.proofs.pipes.Pipes.exchange.Goals as goal
 
 pub returns-in-Some : goal.returns-in-Some
 returns-in-Some c =
-    let t = c.args.self.now in
-    exchanged_some c.args.number t.used t.entries c.pipes.result.now (omega arith) c.pipes.ensures c.args.pipe c.in-Some.i c.in-Some.ensures.found
+    exchanged_told c.args.number c.args.pipe (pipes_of c.args.self.now) _ c.in-Some.i c.deref_mut.ensures.value c.in-Some.ensures.inside (sym c.in-Some.is ∙ c.place.ensures.found)
 
 pub returns-in_default : goal.returns-in_default
-returns-in_default c =
-    let t = c.args.self.now in
-    exchanged_none c.args.number t.used t.entries c.pipes.result.now (omega arith) c.pipes.ensures (c.args.pipe ∷ []) c.in_default.ensures.found
+returns-in_default c = instead_told c.args.number (c.args.pipe ∷ []) (pipes_of c.args.self.now) None (sym c.in_default.is ∙ c.place.ensures.found)

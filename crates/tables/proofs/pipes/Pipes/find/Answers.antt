@@ -1,13 +1,13 @@
-use Rattle.std.proofs.Common.{arith}
-use Rattle.tables.proofs.Numbers.{find_some, find_none}
+use Rattle.std.proofs.Common.{◌∙◌, rules, tests}
+use Rattle.std.proofs.lemmas.Iterator.{YieldsList-from_slice}
+use Rattle.std.proofs.lemmas.Iterator.Search.{find_from_yields_List}
+use Rattle.model.specs.Pipes.{numbered}
+use Rattle.model.proofs.Finding.{find_told}
+use Rattle.tables.specs.Entries.{pipes_of}
+use Rattle.tables.proofs.Numbers.{copied_told}
 use Rattle.tables.proofs.pipes.Pipes.find.Goals as goal
 
-pub returns-in-Some : goal.returns-in-Some
-returns-in-Some c =
-    let t = c.args.self.now in
-    find_some c.args.number t.used t.entries c.pipes.result.now (omega arith) c.pipes.ensures _ c.in-Some.i c.in-Some.ensures.found
-
-pub returns-in-None : goal.returns-in-None
-returns-in-None c =
-    let t = c.args.self.now in
-    find_none c.args.number t.used t.entries c.pipes.result.now (omega arith) c.pipes.ensures c.in-None.ensures.found
+pub returns : goal.returns
+returns c =
+    let found = find_from_yields_List (numbered c.args.number) _ _ c.find.result c.find.ensures.ran (YieldsList-from_slice (pipes_of c.args.self.now) cc) (λ x b q k. search (rules, tests)) in
+    c.copied.ensures ∙ copied_told c.find.result ∙ found ∙ find_told c.args.number (pipes_of c.args.self.now)

@@ -1,15 +1,11 @@
-use Rattle.std.proofs.Common.{take, sym, ap, ◌∙◌, arith}
-use Rattle.std.proofs.lemmas.Bool.{cond-true}
-use Rattle.model.specs.Pipes.{inserted}
-use Rattle.tables.proofs.Numbers.{has_room, inserted_least}
+use Rattle.std.proofs.Common.{◌<◌, min, length, sym, ap, ◌∙◌, rules, tests}
+use Rattle.std.proofs.lemmas.Bool.{cond-true, lt-ltb}
+use Rattle.tables.specs.Entries.{pipes_of}
+use Rattle.tables.proofs.Numbers.{inserted_told}
 use Rattle.tables.proofs.pipes.Pipes.insert.Goals as goal
 
-pub returns : goal.returns
-returns c =
-    let t = c.args.self.now in
-    let p = c.args.pipe in
-    let room = has_room t.used t.entries (omega arith) (omega arith) in
-    record {
-      room = sym room;
-      after = c.put_in.ensures ∙ ap (λ j. inserted j p (take t.used t.entries)) c.min.ensures ∙ inserted_least t.used t.entries (omega arith) c.args.below p ∙ sym (cond-true _ _ _ room);
-    }
+pub returns-clause-after : goal.returns-clause-after
+returns-clause-after c =
+    let ps = pipes_of c.args.self.now in
+    let room : length ps < 62 = search (rules, tests) in
+    c.insert.ensures.items ∙ inserted_told c.args.below _ c.args.pipe ps (c.min-below.ensures ∙ ap (min c.args.below) c.len.ensures.value) ∙ sym (cond-true _ _ _ (lt-ltb (length ps) 62 room))

@@ -1,13 +1,11 @@
-use Rattle.std.proofs.Common.{[], ◌∙◌, arith}
-use Rattle.tables.proofs.Numbers.{removed_some, exchanged_none}
+use Rattle.std.proofs.Common.{[], Some, None, sym, ◌∙◌}
+use Rattle.tables.specs.Entries.{pipes_of}
+use Rattle.tables.proofs.Numbers.{instead_told}
 use Rattle.tables.proofs.pipes.Pipes.remove.Goals as goal
 
 pub returns-in-Some : goal.returns-in-Some
 returns-in-Some c =
-    let t = c.args.self.now in
-    c.close_up.ensures ∙ removed_some c.args.number t.used t.entries c.pipes.result.now (omega arith) c.pipes.ensures c.in-Some.i c.in-Some.ensures.found
+    c.remove.ensures.items ∙ instead_told c.args.number [] (pipes_of c.args.self.now) (Some c.in-Some.i) (sym c.in-Some.is ∙ c.place.ensures.found)
 
 pub returns-in_default : goal.returns-in_default
-returns-in_default c =
-    let t = c.args.self.now in
-    exchanged_none c.args.number t.used t.entries c.pipes.result.now (omega arith) c.pipes.ensures [] c.in_default.ensures.found
+returns-in_default c = instead_told c.args.number [] (pipes_of c.args.self.now) None (sym c.in_default.is ∙ c.place.ensures.found)

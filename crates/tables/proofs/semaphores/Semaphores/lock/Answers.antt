@@ -1,27 +1,24 @@
-use Rattle.std.proofs.Common.{eqb}
+use Rattle.std.proofs.Common.{eqb, sym, ap, ◌∙◌, rules, tests}
 use Rattle.model.specs.Semaphores.{blank}
-use Rattle.tables.specs.Places.{place}
-use Rattle.tables.proofs.Firsts.{at_place, free_place, full_place}
-use Rattle.tables.proofs.Found.{lock_present, lock_taken, lock_full}
+use Rattle.tables.proofs.Locks.{lock_present, locked, locked_told}
 use Rattle.tables.proofs.semaphores.Semaphores.lock.Goals as goal
 
-pub returns-in-At : goal.returns-in-At
-returns-in-At c =
-    let n = c.args.name in
-    let xs = c.args.self.now.names in
-    let e = at_place _ (place (eqb n) xs) (place (eqb blank) xs) c.in-At.ensures.found in
-    lock_present n xs c.if-name-eq-BLANK.false _ e
+pub returns-then-is_some : goal.returns-then-is_some
+returns-then-is_some c =
+    lock_present c.args.name c.args.self.now.names c.if-name-eq-BLANK.false _ (c.place_of.ensures.found (eqb c.args.name) (λ x b q k. search (rules, tests))) c.if-is_some.ensures
 
-pub returns-in-Free : goal.returns-in-Free
-returns-in-Free c =
+pub returns-in_default : goal.returns-in_default
+returns-in_default c =
     let n = c.args.name in
     let xs = c.args.self.now.names in
-    let e = free_place c.in-Free.i (place (eqb n) xs) (place (eqb blank) xs) c.in-Free.ensures.found in
-    lock_taken n xs c.if-name-eq-BLANK.false c.in-Free.i e.0 e.1
+    let other = c.if-name-eq-BLANK.false in
+    ap (locked n xs other) (sym c.in_default.is)
+    ∙ locked_told n xs other _ _ (c.place_of.ensures.found (eqb n) (λ x b q k. search (rules, tests))) c.if-is_some.ensures (c.place_of-2.ensures.found (eqb blank) (λ x b q k. search (rules, tests))) c.place_of-2.ensures.inside
 
-pub returns-in-Full : goal.returns-in-Full
-returns-in-Full c =
+pub returns : goal.returns
+returns c =
     let n = c.args.name in
     let xs = c.args.self.now.names in
-    let e = full_place (place (eqb n) xs) (place (eqb blank) xs) c.in-Full.ensures.found in
-    lock_full n xs c.if-name-eq-BLANK.false e.0 e.1
+    let other = c.if-name-eq-BLANK.false in
+    ap (locked n xs other) (sym c.in-Some.is)
+    ∙ locked_told n xs other _ _ (c.place_of.ensures.found (eqb n) (λ x b q k. search (rules, tests))) c.if-is_some.ensures (c.place_of-2.ensures.found (eqb blank) (λ x b q k. search (rules, tests))) c.place_of-2.ensures.inside
