@@ -1,6 +1,3 @@
-mod Opens
 mod Writes
-mod Replies
 mod Served
 mod Told
-mod Fronts

@@ -5,3 +5,4 @@ pub mod Serves
 pub mod Calls
 pub mod Holds
 pub mod Ends
+pub mod Pipes

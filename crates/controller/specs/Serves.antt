@@ -37,6 +37,11 @@ replied (Err faults.Illegal) a = Ok (length (reply_of a))
 abbrev pub served : ℕ → List ℕ → Answer → Result ℕ ℕ
 served room bytes a = cond (nat_le 1025 room) (replied (decoded bytes) a) (Err 1)
 
+-- the answer's reply stands at the front of the buffer, with the bytes behind it as they were
+pub record Replies (answer : Answer) (count : ℕ) (before after : List ℕ) : Type 0 where
+  pub counted : count ≡ length (reply_of answer)
+  pub reply : after ≡ front (reply_of answer) before
+
 -- the outcome's reply stands at the front of the buffer, with the bytes behind it as they were, and its world is the one at the exit
 pub record Performed (outcome : Answer × World) (count : ℕ) (before after : List ℕ) (world : World) : Type 0 where
   pub counted : count ≡ length (reply_of outcome.0)

@@ -1,109 +1,114 @@
-// What the controller answers to calls, and the number of each answer.
+// Why the controller refuses, each refusal with its number, and the byte that tells each answer.
 ghost use Rattle.std.specs.Prelude.{◌≡◌};
-ghost use Rattle.controller.specs.Answers.{sector_number, is_read, pipe_number, by_volume, is_done};
+ghost use Rattle.controller.specs.Answers.{sector_number, sector_unread, sector_unwritten, pipe_number, pipe_unread, pipe_unwritten, by_volume};
 
+use volume::answers::{ReadRefusal, Refusal, WriteRefusal};
+
+// Field is of a call alone: its number is no result byte.
 #[derive(Clone, Copy, PartialEq, Eq, Debug)]
-pub enum SectorAnswer {
-    Done,
-    Field,
-    NoDrive,
-    Lost,
-    Protected,
-    Beyond,
+pub enum SectorRefusal {
+    Field = 6,
+    NoDrive = 0x87,
+    Lost = 0x8B,
+    Protected = 0x8D,
+    Beyond = 0x8E,
 }
 
+// A pipe result, or the result byte of a volume that refuses.
 #[derive(Clone, Copy, PartialEq, Eq, Debug)]
-pub enum PipeAnswer {
-    Done,
-    Empty,
-    NotOpen,
-    NoRoom,
-    AlreadyOpen,
-    NoPipe,
-    NoSpace,
-    Illegal,
-    NoArea,
-    Lost,
-    Protected,
-    Beyond,
+pub enum PipeRefusal {
+    Empty = 0x08,
+    NotOpen = 0x09,
+    NoRoom = 0x0A,
+    AlreadyOpen = 0x0B,
+    NoPipe = 0x0C,
+    NoSpace = 0x0D,
+    Illegal = 0x0E,
+    NoArea = 0x0F,
+    Lost = 0x8B,
+    Protected = 0x8D,
+    Beyond = 0x8E,
 }
 
-// Of an open: the pipe's number and state, or what refused it.
-#[derive(Clone, Copy, PartialEq, Eq, Debug)]
-pub enum OpenAnswer {
-    Opened { number: u8, state: u8 },
-    Refused(PipeAnswer),
-}
-
-// Of Status: so many bytes of the tables, or a selector that is none.
-#[derive(Clone, Copy, PartialEq, Eq, Debug)]
-pub enum StatusAnswer {
-    Told(usize),
-    Field,
-}
-
-impl SectorAnswer {
-    pub fn is_done(self) -> bool
-        ensures { result ≡ is_read self }
-    {
-        match self {
-            SectorAnswer::Done => true,
-            _ => false,
-        }
-    }
-
-    // A result byte, or of a field out of range the refusal's number.
-    pub fn number(self) -> u8
-        ensures { result ≡ sector_number self }
-    {
-        match self {
-            SectorAnswer::Done => 0x00,
-            SectorAnswer::Field => 6,
-            SectorAnswer::NoDrive => 0x87,
-            SectorAnswer::Lost => 0x8B,
-            SectorAnswer::Protected => 0x8D,
-            SectorAnswer::Beyond => 0x8E,
-        }
-    }
-}
-
-impl PipeAnswer {
-    // A pipe result, or the result byte of a volume that refuses.
-    pub fn number(self) -> u8
-        ensures { result ≡ pipe_number self }
-    {
-        match self {
-            PipeAnswer::Done => 0x00,
-            PipeAnswer::Empty => 0x08,
-            PipeAnswer::NotOpen => 0x09,
-            PipeAnswer::NoRoom => 0x0A,
-            PipeAnswer::AlreadyOpen => 0x0B,
-            PipeAnswer::NoPipe => 0x0C,
-            PipeAnswer::NoSpace => 0x0D,
-            PipeAnswer::Illegal => 0x0E,
-            PipeAnswer::NoArea => 0x0F,
-            PipeAnswer::Lost => 0x8B,
-            PipeAnswer::Protected => 0x8D,
-            PipeAnswer::Beyond => 0x8E,
-        }
-    }
-
+impl PipeRefusal {
     // Did the volume refuse a block?
     pub fn by_volume(self) -> bool
         ensures { result ≡ by_volume self }
     {
-        match self {
-            PipeAnswer::Lost | PipeAnswer::Protected | PipeAnswer::Beyond => true,
-            _ => false,
+        matches!(
+            self,
+            PipeRefusal::Lost | PipeRefusal::Protected | PipeRefusal::Beyond
+        )
+    }
+}
+
+impl Refusal for SectorRefusal {
+    ghost told = { sector_number };
+
+    fn byte_of(answer: Result<(), Self>) -> u8
+        ensures { result ≡ sector_number answer }
+    {
+        match answer {
+            Ok(()) => 0x00,
+            Err(refusal) => refusal as u8,
         }
     }
+}
 
-    pub fn is_done(self) -> bool
-        ensures { result ≡ is_done self }
+impl Refusal for PipeRefusal {
+    ghost told = { pipe_number };
+
+    fn byte_of(answer: Result<(), Self>) -> u8
+        ensures { result ≡ pipe_number answer }
     {
-        match self {
-            PipeAnswer::Done => true,
-            _ => false,
+        match answer {
+            Ok(()) => 0x00,
+            Err(refusal) => refusal as u8,
+        }
+    }
+}
+
+// What the volume refuses keeps its name. The refusals of reads and writes, and of sectors and pipes, are types of their own, so that these are four.
+impl From<ReadRefusal> for SectorRefusal {
+    ghost from_gives = { λ e r. r ≡ sector_unread e };
+
+    fn from(refusal: ReadRefusal) -> Self {
+        match refusal {
+            ReadRefusal::Beyond => SectorRefusal::Beyond,
+            ReadRefusal::Lost => SectorRefusal::Lost,
+        }
+    }
+}
+
+impl From<WriteRefusal> for SectorRefusal {
+    ghost from_gives = { λ e r. r ≡ sector_unwritten e };
+
+    fn from(refusal: WriteRefusal) -> Self {
+        match refusal {
+            WriteRefusal::Beyond => SectorRefusal::Beyond,
+            WriteRefusal::Protected => SectorRefusal::Protected,
+        }
+    }
+}
+
+impl From<ReadRefusal> for PipeRefusal {
+    ghost from_gives = { λ e r. r ≡ pipe_unread e };
+
+    fn from(refusal: ReadRefusal) -> Self {
+        match refusal {
+            ReadRefusal::Beyond => PipeRefusal::Beyond,
+            ReadRefusal::Lost => PipeRefusal::Lost,
+        }
+    }
+}
+
+impl From<WriteRefusal> for PipeRefusal {
+    ghost from_gives = { λ e r. r ≡ pipe_unwritten e };
+
+    fn from(refusal: WriteRefusal) -> Self {
+        match refusal {
+            WriteRefusal::Beyond => PipeRefusal::Beyond,
+            WriteRefusal::Protected => PipeRefusal::Protected,
         }
     }
 }

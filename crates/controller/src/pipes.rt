@@ -1,25 +1,27 @@
 // The pipe commands.
-ghost use Rattle.std.specs.Prelude.{◌≡◌, if◌then◌else◌};
+ghost use Rattle.std.specs.Prelude.{◌≡◌, OnErr};
 ghost use Rattle.packet.specs.Commands.{initialize_area, open_write, open_read, pipe_read, pipe_write, close};
-ghost use Rattle.model.specs.Pipes.{may_name, spanning, accessed};
-ghost use Rattle.model.specs.Steps.{obey};
-ghost use Rattle.controller.specs.Answers.{pipe_answer, open_answer, pipe_read_answer, is_done};
+ghost use Rattle.tables.specs.Entries.{pipes_of};
+ghost use Rattle.model.specs.Pipes.{may_name, find};
+ghost use Rattle.model.specs.Steps.{call, obey};
+ghost use Rattle.model.specs.Laws.{Does};
+ghost use Rattle.controller.specs.Answers.{pipe_answer, open_answer, pipe_read_answer};
+ghost use Rattle.controller.specs.Pipes.{found};
 ghost use Rattle.controller.specs.Worlds.{world_of};
 
-use crate::answers::{OpenAnswer, PipeAnswer};
-use crate::controller::Controller;
+use crate::answers::PipeRefusal;
+use crate::controller::{Controller, Tables};
+use model::names::{BLANK, HIGH_NAME, LOW_NAME};
 use model::pipe::{Access, Area, Pipe};
 use status::state_of;
-use tables::area::area_end;
 use volume::Volume;
-use volume::answers::{ReadAnswer, WriteAnswer};
 
-// Eight blanks, and the names of the area's two ends, WOOFWOOF and FOOWFOOW.
-const BLANK: u64 = 0x2020_2020_2020_2020;
-
-const LOW_NAME: u64 = 0x574F_4F46_574F_4F46;
-
-const HIGH_NAME: u64 = 0x464F_4F57_464F_4F57;
+// What an accepted open tells of the pipe; the state is the byte of the reply, a sum of bits.
+#[derive(Clone, Copy)]
+pub(crate) struct OpenedPipe {
+    pub(crate) number: u8,
+    pub(crate) state: u8,
+}
 
 fn may_name(name: u64) -> bool
     ensures { result ≡ may_name name }
@@ -27,68 +29,60 @@ fn may_name(name: u64) -> bool
     name != BLANK && name != LOW_NAME && name != HIGH_NAME
 }
 
-fn spanning_of(pipe: Pipe, start: u32, end: u32) -> Pipe
-    ensures { result ≡ spanning pipe start end }
-{
-    Pipe {
-        number: pipe.number,
-        name: pipe.name,
-        start,
-        end,
-        access: pipe.access,
+impl Tables {
+    // The area and the pipe of this number, or which of them there is not.
+    fn found(&self, number: u8) -> Result<(Area, Pipe), PipeRefusal>
+        ensures { result ≡ found self.now.area (find number (pipes_of self.now.pipes)) }
+    {
+        let area = self.area.ok_or(PipeRefusal::NoArea)?;
+        let pipe = self.pipes.find(number).ok_or(PipeRefusal::NoPipe)?;
+        Ok((area, pipe))
     }
 }
 
-fn accessed_of(pipe: Pipe, access: Access) -> Pipe
-    ensures { result ≡ accessed pipe access }
-{
-    Pipe {
-        number: pipe.number,
-        name: pipe.name,
-        start: pipe.start,
-        end: pipe.end,
-        access,
-    }
-}
-
+// Each `obey_` is what its command does, for packets and calls alike: its outcomes are proved alone, and one lemma gives the call its laws.
+// Each call's answer cites that lemma, `does`: `using(does)` on the function does not find it, since the goal is a record.
 impl<V: Volume> Controller<V> {
-    pub(crate) fn obey_area(&mut self, first: u16, blocks: u16) -> PipeAnswer
+    pub(crate) fn obey_area(&mut self, first: u16, blocks: u16) -> Result<(), PipeRefusal>
         ensures { obey (world_of V.Volume.meaning self.old) (initialize_area first blocks) ≡ (pipe_answer result, world_of V.Volume.meaning self.new) }
     {
         let area = Area { first, blocks };
         if !self.volume.writable() {
-            return PipeAnswer::Protected;
+            return Err(PipeRefusal::Protected);
         }
-        if blocks == 0 || area_end(area) >= 32768 {
-            return PipeAnswer::Illegal;
+        if blocks == 0 || area.end() >= 32768 {
+            return Err(PipeRefusal::Illegal);
         }
-        if area_end(area) > self.volume.count() {
-            return PipeAnswer::Beyond;
+        if area.end() > self.volume.count() {
+            return Err(PipeRefusal::Beyond);
         }
         self.tables.area = Some(area);
         self.tables.pipes.clear();
-        PipeAnswer::Done
+        Ok(())
     }
 
-    pub(crate) fn obey_open_write(&mut self, name: u64) -> OpenAnswer
+    pub fn initialize_area(&mut self, first: u16, blocks: u16) -> Result<(), PipeRefusal>
+        ensures { Does (world_of V.Volume.meaning self.old) (call (initialize_area first blocks)) (pipe_answer result) (world_of V.Volume.meaning self.new) }
+    {
+        self.obey_area(first, blocks)
+    }
+
+    pub(crate) fn obey_open_write(&mut self, name: u64) -> Result<OpenedPipe, PipeRefusal>
         ensures { obey (world_of V.Volume.meaning self.old) (open_write name) ≡ (open_answer result, world_of V.Volume.meaning self.new) }
     {
-        let Some(area) = self.tables.area else {
-            return OpenAnswer::Refused(PipeAnswer::NoArea);
-        };
+        let area = self.tables.area.ok_or(PipeRefusal::NoArea)?;
         if !may_name(name) {
-            return OpenAnswer::Refused(PipeAnswer::Illegal);
+            return Err(PipeRefusal::Illegal);
         }
         if self.tables.pipes.has_writer(name) {
-            return OpenAnswer::Refused(PipeAnswer::AlreadyOpen);
+            return Err(PipeRefusal::AlreadyOpen);
         }
         let gap = self.tables.pipes.best_gap(area);
         if gap.gives == 0 {
-            return OpenAnswer::Refused(PipeAnswer::NoSpace);
+            return Err(PipeRefusal::NoSpace);
         }
-        let Some(number) = self.tables.pipes.lowest_unused() else {
-            return OpenAnswer::Refused(PipeAnswer::NoSpace);
-        };
+        let unused = self.tables.pipes.lowest_unused();
+        let number = unused.ok_or(PipeRefusal::NoSpace)?;
         let pipe = Pipe {
             number,
             name,
@@ -96,34 +90,35 @@ impl<V: Volume> Controller<V> {
             end: gap.from,
             access: Access::Writing,
         };
-        let _ = self.tables.pipes.insert(gap.below, pipe);
-        OpenAnswer::Opened {
+        self.tables.pipes.insert(gap.below, pipe).unwrap();
+        Ok(OpenedPipe {
             number,
             state: state_of(pipe),
-        }
+        })
     }
 
-    pub(crate) fn obey_open_read(&mut self, name: u64) -> OpenAnswer
+    pub(crate) fn obey_open_read(&mut self, name: u64) -> Result<OpenedPipe, PipeRefusal>
         ensures { obey (world_of V.Volume.meaning self.old) (open_read name) ≡ (open_answer result, world_of V.Volume.meaning self.new) }
     {
         if self.tables.area.is_none() {
-            return OpenAnswer::Refused(PipeAnswer::NoArea);
+            return Err(PipeRefusal::NoArea);
         }
         if !may_name(name) {
-            return OpenAnswer::Refused(PipeAnswer::Illegal);
+            return Err(PipeRefusal::Illegal);
         }
         if !self.tables.pipes.has_name(name) {
-            return OpenAnswer::Refused(PipeAnswer::NoPipe);
+            return Err(PipeRefusal::NoPipe);
         }
-        let Some(closed) = self.tables.pipes.closed_named(name) else {
-            return OpenAnswer::Refused(PipeAnswer::AlreadyOpen);
+        let closed = self.tables.pipes.closed_named(name);
+        let pipe = Pipe {
+            access: Access::Reading,
+            ..closed.ok_or(PipeRefusal::AlreadyOpen)?
         };
-        let pipe = accessed_of(closed, Access::Reading);
-        self.tables.pipes.exchange(closed.number, pipe);
-        OpenAnswer::Opened {
-            number: closed.number,
+        self.tables.pipes.exchange(pipe.number, pipe);
+        Ok(OpenedPipe {
+            number: pipe.number,
             state: state_of(pipe),
-        }
+        })
     }
 
     // The block goes into the buffer, which a refusal leaves alone.
@@ -132,35 +127,27 @@ impl<V: Volume> Controller<V> {
         number: u8,
         length: u16,
         block: &mut [u8; 512],
-    ) -> PipeAnswer
-        ensures buffer { block.new ≡ (if is_done result then block.new else block.old) }
+    ) -> Result<(), PipeRefusal>
+        ensures buffer { OnErr result (block.new ≡ block.old) }
         ensures defined { obey (world_of V.Volume.meaning self.old) (pipe_read number length) ≡ (pipe_read_answer result block.new, world_of V.Volume.meaning self.new) }
     {
-        if self.tables.area.is_none() {
-            return PipeAnswer::NoArea;
-        }
-        let Some(pipe) = self.tables.pipes.find(number) else {
-            return PipeAnswer::NoPipe;
-        };
+        let (_, pipe) = self.tables.found(number)?;
         if pipe.access != Access::Reading {
-            return PipeAnswer::NotOpen;
+            return Err(PipeRefusal::NotOpen);
         }
         if length != 512 {
-            return PipeAnswer::Illegal;
+            return Err(PipeRefusal::Illegal);
         }
         if pipe.start >= pipe.end {
-            return PipeAnswer::Empty;
+            return Err(PipeRefusal::Empty);
         }
-        match self.volume.read(pipe.start, block) {
-            ReadAnswer::Beyond => PipeAnswer::Beyond,
-            ReadAnswer::Lost => PipeAnswer::Lost,
-            ReadAnswer::Done => {
-                self.tables
-                    .pipes
-                    .exchange(pipe.number, spanning_of(pipe, pipe.start + 1, pipe.end));
-                PipeAnswer::Done
-            }
-        }
+        self.volume.read(pipe.start, block)?;
+        let rest = Pipe {
+            start: pipe.start + 1,
+            ..pipe
+        };
+        self.tables.pipes.exchange(pipe.number, rest);
+        Ok(())
     }
 
     pub(crate) fn obey_pipe_write(
@@ -168,55 +155,44 @@ impl<V: Volume> Controller<V> {
         number: u8,
         length: u16,
         block: &[u8; 512],
-    ) -> PipeAnswer
+    ) -> Result<(), PipeRefusal>
         ensures { obey (world_of V.Volume.meaning self.old) (pipe_write number length block.now) ≡ (pipe_answer result, world_of V.Volume.meaning self.new) }
     {
-        let Some(area) = self.tables.area else {
-            return PipeAnswer::NoArea;
-        };
-        let Some(pipe) = self.tables.pipes.find(number) else {
-            return PipeAnswer::NoPipe;
-        };
-        if pipe.access != Access::Writing {
-            return PipeAnswer::NotOpen;
+        let (area, pipe) = self.tables.found(number)?;
+        if !pipe.access.is_writing() {
+            return Err(PipeRefusal::NotOpen);
         }
         if length != 512 {
-            return PipeAnswer::Illegal;
+            return Err(PipeRefusal::Illegal);
         }
-        if pipe.end >= self.tables.pipes.next_start(pipe.number, area_end(area)) {
-            return PipeAnswer::NoRoom;
+        if pipe.end >= self.tables.pipes.next_start(pipe.number, area.end()) {
+            return Err(PipeRefusal::NoRoom);
         }
-        match self.volume.write(pipe.end, block) {
-            WriteAnswer::Beyond => PipeAnswer::Beyond,
-            WriteAnswer::Protected => PipeAnswer::Protected,
-            WriteAnswer::Done => {
-                self.tables
-                    .pipes
-                    .exchange(pipe.number, spanning_of(pipe, pipe.start, pipe.end + 1));
-                PipeAnswer::Done
-            }
-        }
+        self.volume.write(pipe.end, block)?;
+        let longer = Pipe {
+            end: pipe.end + 1,
+            ..pipe
+        };
+        self.tables.pipes.exchange(pipe.number, longer);
+        Ok(())
     }
 
-    pub(crate) fn obey_close(&mut self, number: u8) -> PipeAnswer
+    pub(crate) fn obey_close(&mut self, number: u8) -> Result<(), PipeRefusal>
         ensures { obey (world_of V.Volume.meaning self.old) (close number) ≡ (pipe_answer result, world_of V.Volume.meaning self.new) }
     {
-        if self.tables.area.is_none() {
-            return PipeAnswer::NoArea;
-        }
-        let Some(pipe) = self.tables.pipes.find(number) else {
-            return PipeAnswer::NoPipe;
-        };
+        let (_, pipe) = self.tables.found(number)?;
         if pipe.access == Access::Closed {
-            return PipeAnswer::NotOpen;
+            return Err(PipeRefusal::NotOpen);
         }
         if pipe.start < pipe.end {
-            self.tables
-                .pipes
-                .exchange(pipe.number, accessed_of(pipe, Access::Closed));
+            let closed = Pipe {
+                access: Access::Closed,
+                ..pipe
+            };
+            self.tables.pipes.exchange(pipe.number, closed);
         } else {
             self.tables.pipes.remove(pipe.number);
         }
-        PipeAnswer::Done
+        Ok(())
     }
 }

@@ -1,22 +1,16 @@
 // Packets: the reply buffer's question, the packet's questions, the command, the reply.
-ghost use Rattle.std.specs.Prelude.{◌≡◌, ℕ, ◌≤◌, true};
-ghost use lib.ListN.{length};
-ghost use Rattle.build.specs.Builds.{front};
+ghost use Rattle.std.specs.Prelude.{◌≡◌, ◌≤◌, true, length};
 ghost use Rattle.packet.specs.Commands.{read, pipe_read, pipe_write, status};
 ghost use Rattle.packet.specs.Packets.{in_range};
 ghost use Rattle.packet.specs.Views.{command_of};
-ghost use Rattle.model.specs.Answers.{reply_of};
 ghost use Rattle.model.specs.Steps.{packet as sent, obey, step};
 ghost use Rattle.model.specs.Laws.{Does};
 ghost use Rattle.controller.specs.Serves.{serve_number, Performed, Served};
 ghost use Rattle.controller.specs.Worlds.{world_of};
 
 use crate::controller::Controller;
-use crate::reply::{
-    reply_bare, reply_lock, reply_opened, reply_pipe_read, reply_piped, reply_read, reply_sector,
-    reply_tables, reply_unlock,
-};
-use packet::command::{Command, Size};
+use crate::reply::{Replied, reply_bare, reply_pipe_read, reply_read};
+use packet::command::{Command, SectorAddress};
 use packet::decode::decode;
 use packet::fault::PacketFault;
 use volume::Volume;
@@ -24,38 +18,31 @@ use volume::Volume;
 // Why a packet gets no reply.
 #[derive(Clone, Copy, PartialEq, Eq, Debug)]
 pub enum ServeRefusal {
-    ReplyBuffer,
-    Empty,
-    NoModifier,
-    Length,
+    ReplyBuffer = 1,
+    Empty = 2,
+    NoModifier = 3,
+    Length = 4,
 }
 
 impl ServeRefusal {
     pub fn number(self) -> u8
         ensures { result ≡ serve_number self }
     {
-        match self {
-            ServeRefusal::ReplyBuffer => 1,
-            ServeRefusal::Empty => 2,
-            ServeRefusal::NoModifier => 3,
-            ServeRefusal::Length => 4,
-        }
+        self as u8
     }
 }
 
 impl<V: Volume> Controller<V> {
-    fn perform_read(&self, size: Size, drive: u8, sector: u32, reply: &mut [u8]) -> usize
-        requires { 1025 ≤ length reply.old }
-        ensures { Performed (obey (world_of V.Volume.meaning self.now) (read size drive sector)) result reply.old reply.new (world_of V.Volume.meaning self.now) }
+    fn perform_read(&self, at: SectorAddress, reply: &mut [u8; 1025]) -> usize
+        ensures { Performed (obey (world_of V.Volume.meaning self.now) (read at.size at.drive at.sector)) result reply.old reply.new (world_of V.Volume.meaning self.now) }
     {
         let mut block = [0u8; 512];
-        let answered = self.obey_read(size, drive, sector, &mut block);
-        let first = size.first_byte(sector);
-        reply_read(reply, answered, &block[first..first + size.bytes()])
+        let answered = self.obey_read(at, &mut block);
+        let first = at.first_byte();
+        reply_read(reply, answered, &block[first..first + at.size.bytes()])
     }
 
-    fn perform_pipe_read(&mut self, number: u8, length: u16, reply: &mut [u8]) -> usize
-        requires { 1025 ≤ lib.ListN.length reply.old }
+    fn perform_pipe_read(&mut self, number: u8, length: u16, reply: &mut [u8; 1025]) -> usize
         ensures { Performed (obey (world_of V.Volume.meaning self.old) (pipe_read number length)) result reply.old reply.new (world_of V.Volume.meaning self.new) }
     {
         let mut block = [0u8; 512];
@@ -63,78 +50,65 @@ impl<V: Volume> Controller<V> {
         reply_pipe_read(reply, answered, &block)
     }
 
-    fn perform_status(&self, selector: u8, reply: &mut [u8]) -> usize
-        requires room { 1025 ≤ length reply.old }
-        requires known { selector ≤ 3 }
+    fn perform_status(&self, selector: u8, reply: &mut [u8; 1025]) -> usize
+        requires { selector ≤ 3 }
         ensures { Performed (obey (world_of V.Volume.meaning self.now) (status selector)) result reply.old reply.new (world_of V.Volume.meaning self.now) }
     {
-        let names = self.tables.semaphores.names();
-        let pipes = self.tables.pipes.pipes();
-        reply_tables(reply, names, self.tables.area, pipes, selector)
+        let behind = reply.last_chunk_mut::<1024>().unwrap();
+        let count = self.tables.put(selector, behind).unwrap();
+        reply[0] = 0x00;
+        count + 1
     }
 
+    // `count` is the packet's field, since `length` is the word of the clause. Number and field are a command's own, told apart at once: a
+    // type for the two would be made and taken apart in one call.
     fn perform_pipe_write(
         &mut self,
         number: u8,
-        length: u16,
+        count: u16,
         bytes: &[u8],
-        reply: &mut [u8],
+        reply: &mut [u8; 1025],
     ) -> usize
-        requires room { 1025 ≤ lib.ListN.length reply.old }
-        requires whole { lib.ListN.length bytes.now ≡ 512 }
-        ensures { Performed (obey (world_of V.Volume.meaning self.old) (pipe_write number length bytes.now)) result reply.old reply.new (world_of V.Volume.meaning self.new) }
+        requires { length bytes.now ≡ 512 }
+        ensures { Performed (obey (world_of V.Volume.meaning self.old) (pipe_write number count bytes.now)) result reply.old reply.new (world_of V.Volume.meaning self.new) }
     {
-        match bytes.first_chunk::<512>() {
-            Some(block) => reply_piped(reply, self.obey_pipe_write(number, length, block)),
-            None => 0,
-        }
+        let block = bytes.first_chunk::<512>().unwrap();
+        self.obey_pipe_write(number, count, block).reply(reply)
     }
 
-    fn perform(&mut self, command: &Command<'_>, reply: &mut [u8]) -> usize
-        requires room { 1025 ≤ length reply.old }
-        requires ranged { in_range (command_of command.now) ≡ true }
+    fn perform(&mut self, command: &Command<'_>, reply: &mut [u8; 1025]) -> usize
+        requires { in_range (command_of command.now) ≡ true }
         ensures { Performed (obey (world_of V.Volume.meaning self.old) (command_of command.now)) result reply.old reply.new (world_of V.Volume.meaning self.new) }
     {
         match *command {
-            Command::Read {
-                size,
-                drive,
-                sector,
-            } => self.perform_read(size, drive, sector, reply),
-            Command::Write {
-                size,
-                drive,
-                sector,
-                bytes,
-            } => reply_sector(reply, self.obey_write(size, drive, sector, bytes)),
-            Command::Lock { name } => reply_lock(reply, self.obey_lock(name)),
-            Command::Unlock { name } => reply_unlock(reply, self.obey_unlock(name)),
+            Command::Read(at) => self.perform_read(at, reply),
+            Command::Write { at, bytes } => self.obey_write(at, bytes).reply(reply),
+            Command::Lock { name } => self.obey_lock(name).reply(reply),
+            Command::Unlock { name } => self.unlock(name).reply(reply),
             Command::InitializeSemaphores => {
-                self.obey_initialize();
+                self.initialize_semaphores();
                 reply_bare(reply, 0x00)
             }
             Command::Status { selector } => self.perform_status(selector, reply),
             Command::InitializeArea { first, blocks } => {
-                reply_piped(reply, self.obey_area(first, blocks))
+                self.obey_area(first, blocks).reply(reply)
             }
-            Command::OpenWrite { name } => reply_opened(reply, self.obey_open_write(name)),
-            Command::OpenRead { name } => reply_opened(reply, self.obey_open_read(name)),
+            Command::OpenWrite { name } => self.obey_open_write(name).reply(reply),
+            Command::OpenRead { name } => self.obey_open_read(name).reply(reply),
             Command::PipeRead { number, length } => self.perform_pipe_read(number, length, reply),
             Command::PipeWrite {
                 number,
                 length,
                 bytes,
             } => self.perform_pipe_write(number, length, bytes, reply),
-            Command::Close { number } => reply_piped(reply, self.obey_close(number)),
+            Command::Close { number } => self.obey_close(number).reply(reply),
         }
     }
 
-    fn serve_said(&mut self, packet: &[u8], reply: &mut [u8]) -> Result<usize, ServeRefusal>
+    fn serve_said(&mut self, packet: &[u8], reply: &mut [u8; 1025]) -> Result<usize, ServeRefusal>
         ensures { Served (world_of V.Volume.meaning self.old) packet.now reply.old reply.new result (world_of V.Volume.meaning self.new) }
     {
-        if reply.len() < 1025 {
-            return Err(ServeRefusal::ReplyBuffer);
-        }
+        // Illegal has a reply, so that no conversion of the faults as a whole would do.
         match decode(packet) {
             Ok(command) => Ok(self.perform(&command, reply)),
             Err(PacketFault::Empty) => Err(ServeRefusal::Empty),
@@ -144,12 +118,16 @@ impl<V: Volume> Controller<V> {
         }
     }
 
+    // No heap while serving: the caller's buffer, and how much of it is the reply.
     // Serves a packet: the reply at the front of the buffer, the bytes behind it as they were, and its length; or a refusal, which
     // writes and changes nothing.
     pub fn serve(&mut self, packet: &[u8], reply: &mut [u8]) -> Result<usize, ServeRefusal>
         ensures served { Served (world_of V.Volume.meaning self.old) packet.now reply.old reply.new result (world_of V.Volume.meaning self.new) }
         ensures does { Does (world_of V.Volume.meaning self.old) (sent (length reply.old) packet.now) (step (world_of V.Volume.meaning self.old) (sent (length reply.old) packet.now)).0 (world_of V.Volume.meaning self.new) }
     {
-        self.serve_said(packet, reply)
+        match reply.first_chunk_mut::<1025>() {
+            Some(front) => self.serve_said(packet, front),
+            None => Err(ServeRefusal::ReplyBuffer),
+        }
     }
 }

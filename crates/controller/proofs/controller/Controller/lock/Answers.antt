@@ -1,5 +1,9 @@
+use Rattle.std.proofs.Common.{rules}
 use Rattle.model.proofs.Whole.{does}
 use Rattle.controller.proofs.controller.Controller.lock.Goals as goal
 
-pub returns : goal.returns
-returns g c = record { does = does _ _ _ _ c.step_lock.ensures.defined; holds = c.step_lock.ensures.holds }
+pub returns-in_err-obey_lock-clause-does : goal.returns-in_err-obey_lock-clause-does
+returns-in_err-obey_lock-clause-does g c = does _ _ _ _ (search rules)
+
+pub returns-clause-does : goal.returns-clause-does
+returns-clause-does g c = does _ _ _ _ (search rules)

@@ -1,5 +1,9 @@
+use Rattle.std.proofs.Common.{rules}
 use Rattle.model.proofs.Whole.{does}
 use Rattle.controller.proofs.controller.Controller.open_write.Goals as goal
 
+pub returns-in_err-obey_open_write : goal.returns-in_err-obey_open_write
+returns-in_err-obey_open_write g c = does _ _ _ _ (search rules)
+
 pub returns : goal.returns
-returns g c = does _ _ _ _ c.step_open_write.ensures
+returns g c = does _ _ _ _ (search rules)

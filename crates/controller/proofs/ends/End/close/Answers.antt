@@ -1,5 +1,5 @@
 use Rattle.model.proofs.Whole.{does}
-use Rattle.controller.proofs.controller.Controller.close_pipe.Goals as goal
+use Rattle.controller.proofs.ends.End.close.Goals as goal
 
 pub returns : goal.returns
 returns g c = does _ _ _ _ c.obey_close.ensures

@@ -1,0 +1,6 @@
+use Rattle.std.proofs.Common.{rules}
+use Rattle.model.proofs.Whole.{does}
+use Rattle.controller.proofs.ends.«End+Writing».write.Goals as goal
+
+pub returns : goal.returns
+returns g c = does _ _ _ _ (search rules)
