@@ -1,5 +1,8 @@
 // Rows of text in aligned columns.
+use itertools::Itertools;
 use std::alloc::{AllocError, Global};
+use std::fmt;
+use std::fmt::Write;
 
 // The cells stand in columns; the tail, of any length or none, stands behind them.
 #[derive(Drop)]
@@ -8,95 +11,96 @@ pub(crate) struct Row {
     pub(crate) tail: String,
 }
 
-#[derive(Clone, Copy, PartialEq, Eq)]
+#[derive(Clone, Copy)]
 pub(crate) enum Side {
     Left,
     Right,
 }
 
-// A row of the names over the columns.
-pub(crate) fn title(heap: Global, names: &[&str], tail: &str) -> Result<Row, AllocError> {
-    let mut cells = Vec::new(heap);
-    for name in names {
-        cells.push(String::from_str(heap, name)?)?;
+#[derive(Clone, Copy)]
+struct Column {
+    side: Side,
+    width: usize,
+}
+
+// A text in its column.
+#[derive(Clone, Copy)]
+struct Cell<'a> {
+    text: &'a str,
+    column: Column,
+}
+
+impl fmt::Display for Cell<'_> {
+    fn fmt<W: fmt::Write>(&self, f: &mut fmt::Formatter<W>) -> fmt::Result {
+        let &Cell {
+            text,
+            column: Column { side, width },
+        } = self;
+        match side {
+            Side::Left => write!(f, "{text:<width$}"),
+            Side::Right => write!(f, "{text:>width$}"),
+        }
     }
+}
+
+// A row of the names over the columns. Apart from their sides, since rows are laid out without a title too.
+pub(crate) fn title(heap: Global, names: &[&str], tail: &str) -> Result<Row, AllocError> {
     Ok(Row {
-        cells,
+        cells: names
+            .iter()
+            .map(|name| String::from_str(heap, name))
+            .try_collect(heap)?,
         tail: String::from_str(heap, tail)?,
     })
 }
 
-fn width_of(text: &String) -> usize {
-    text.chars().count()
-}
-
-fn widened(heap: Global, widths: &[usize], cells: &[String]) -> Result<Vec<usize>, AllocError> {
-    let mut out = Vec::new(heap);
-    for i in 0..widths.len().max(cells.len()) {
-        let old = widths.get(i).copied().unwrap_or(0);
-        let new = match cells.get(i) {
-            Some(cell) => width_of(cell),
-            None => 0,
-        };
-        out.push(old.max(new))?;
+fn widen(columns: &mut [Column], cells: &[String]) {
+    for (column, cell) in columns.iter_mut().zip(cells.iter()) {
+        column.width = column.width.max(cell.chars().count());
     }
-    Ok(out)
 }
 
-fn widths_of(heap: Global, rows: &[Row]) -> Result<Vec<usize>, AllocError> {
-    let mut widths = Vec::new(heap);
+// As wide as the widest of their cells.
+fn columns_of(heap: Global, rows: &[Row], sides: &[Side]) -> Result<Vec<Column>, AllocError> {
+    let mut columns: Vec<Column> = sides
+        .iter()
+        .map(|&side| Column { side, width: 0 })
+        .collect(heap)?;
     for row in rows {
-        widths = widened(heap, widths.as_slice(), row.cells.as_slice())?;
+        widen(columns.as_mut_slice(), row.cells.as_slice());
     }
-    Ok(widths)
-}
-
-fn add_blanks(out: &mut String, n: usize) -> Result<(), AllocError> {
-    for _ in 0..n {
-        out.push(' ')?;
-    }
-    Ok(())
-}
-
-fn add_cell(out: &mut String, cell: &String, width: usize, side: Side) -> Result<(), AllocError> {
-    let blanks = width.saturating_sub(width_of(cell));
-    if side == Side::Right {
-        add_blanks(out, blanks)?;
-        out.push_str(cell.as_str())?;
-    } else {
-        out.push_str(cell.as_str())?;
-        add_blanks(out, blanks)?;
-    }
-    Ok(())
+    Ok(columns)
 }
 
 fn add_row(
+    heap: Global,
     out: &mut String,
     row: &Row,
-    widths: &[usize],
-    sides: &[Side],
+    columns: &[Column],
 ) -> Result<(), AllocError> {
-    for (i, cell) in row.cells.iter().enumerate() {
-        let width = widths.get(i).copied().unwrap_or(0);
-        let side = sides.get(i).copied().unwrap_or(Side::Left);
-        if i > 0 {
-            out.push_str("  ")?;
-        }
-        add_cell(out, cell, width, side)?;
+    let cells = row
+        .cells
+        .iter()
+        .zip(columns.iter())
+        .map(|(text, &column)| Cell {
+            text: text.as_str(),
+            column,
+        })
+        .join(heap, "  ")?;
+    let tail = &row.tail;
+    if tail.is_empty() {
+        writeln!(out, "{cells}")
+    } else {
+        writeln!(out, "{cells}  {tail}")
     }
-    if !row.tail.is_empty() {
-        out.push_str("  ")?;
-        out.push_str(row.tail.as_str())?;
-    }
-    out.push('\n')
 }
 
 // The rows, a line each; the sides are those of the columns in turn.
 pub(crate) fn laid_out(heap: Global, rows: &[Row], sides: &[Side]) -> Result<String, AllocError> {
-    let widths = widths_of(heap, rows)?;
+    let columns = columns_of(heap, rows, sides)?;
     let mut out = String::new(heap);
     for row in rows {
-        add_row(&mut out, row, widths.as_slice(), sides)?;
+        add_row(heap, &mut out, row, columns.as_slice())?;
     }
     Ok(out)
 }

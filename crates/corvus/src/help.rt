@@ -1,8 +1,8 @@
 // What the program can do, and what it says of a word that it does not know.
 use crate::stop::Stop;
-use std::alloc::{AllocError, Global};
+use std::alloc::Global;
 
-const TEXT: &str = "\
+pub(crate) const TEXT: &str = "\
 corvus: where the blocks of a room's drive lie, what a house image holds, what a packet says
 
 On a room table:
@@ -70,7 +70,7 @@ A refusal is one line on standard error, and the status is then 1.
 ";
 
 // The box has a page of its own.
-const BOX: &str = "\
+pub(crate) const BOX: &str = "\
 corvus: what the box answers to packets
 
   corvus run [--save] [SCENARIO]
@@ -105,51 +105,48 @@ A file is a path from the scenario's folder. A refused placement has no block, a
 A refusal is one line on standard error, and the status is then 1.
 ";
 
-pub(crate) fn print(rt: &HostRuntime) -> Result<(), Stop> {
-    rt.print(TEXT)?;
+pub(crate) fn print(rt: &HostRuntime, page: &str) -> Result<(), Stop> {
+    rt.print(page)?;
     Ok(())
 }
 
-pub(crate) fn print_box(rt: &HostRuntime) -> Result<(), Stop> {
-    rt.print(BOX)?;
-    Ok(())
-}
-
-pub(crate) fn unknown(heap: Global, word: &str) -> Result<Stop, AllocError> {
-    Ok(Stop::Said(format!(in heap; "'{word}' is no command; try 'corvus help'")?))
-}
-
-fn usage(command: &str) -> &'static str {
+// How a command is given, where it is one. A text for each word, as a list to search would have, and no search:
+// `obey` matches the words too, but with what stands behind them, which it borrows.
+fn usage(command: &str) -> Option<&'static str> {
     match command {
-        "rooms" => "rooms TABLE",
-        "place" => "place TABLE ROOM BLOCK...",
-        "block" => "block TABLE ROOM PLACE...",
-        "map" => "map TABLE ROOM",
-        "check" => "check IMAGE",
-        "new" => "new IMAGE BLOCKS",
-        "get" => "get IMAGE BLOCK",
-        "put" => "put IMAGE BLOCK",
-        "build" => "build [--room N] COMMAND FIELDS...",
-        "run" => "run [--save] [SCENARIO]",
-        "serve" => "serve IMAGE [TABLE ROOM]",
-        "tables" => "tables SCENARIO",
+        "help" | "--help" => Some("help"),
+        "rooms" => Some("rooms TABLE"),
+        "place" => Some("place TABLE ROOM BLOCK..."),
+        "block" => Some("block TABLE ROOM PLACE..."),
+        "map" => Some("map TABLE ROOM"),
+        "check" => Some("check IMAGE"),
+        "new" => Some("new IMAGE BLOCKS"),
+        "get" => Some("get IMAGE BLOCK"),
+        "put" => Some("put IMAGE BLOCK"),
+        "packet" => Some("packet HEX..."),
+        "build" => Some("build [--room N] COMMAND FIELDS..."),
+        "run" => Some("run [--save] [SCENARIO]"),
+        "serve" => Some("serve IMAGE [TABLE ROOM]"),
+        "tables" => Some("tables SCENARIO"),
+        _ => None,
+    }
+}
+
+// Which page tells of the command: two pages, so no word needs one of its own.
+fn page(command: &str) -> &'static str {
+    match command {
+        "run" | "serve" | "tables" => "run --help",
         _ => "help",
     }
 }
 
-// Is it a command of the box?
-pub(crate) fn is_of_box(command: &str) -> bool {
-    matches!(command, "run" | "serve" | "tables")
-}
-
-pub(crate) fn wrong_words(heap: Global, command: &str) -> Result<Stop, AllocError> {
-    let usage = usage(command);
-    let page = if is_of_box(command) {
-        "run --help"
-    } else {
-        "help"
-    };
-    Ok(Stop::Said(format!(in heap;
-        "wrong number of words: it is 'corvus {usage}'; try 'corvus {page}'"
-    )?))
+// What is said of a command that is none, or that has the wrong words behind it.
+pub(crate) fn refused(heap: Global, command: &str) -> Stop {
+    let page = page(command);
+    Stop::said(match usage(command) {
+        Some(usage) => format!(in heap;
+            "wrong number of words: it is 'corvus {usage}'; try 'corvus {page}'"
+        ),
+        None => format!(in heap; "'{command}' is no command; try 'corvus help'"),
+    })
 }

@@ -1,15 +1,18 @@
 // Images as a room or a person names them: their header and their lost blocks, or why they are refused.
-use crate::files::bytes_of;
-use crate::questions::image_words;
+use crate::drive::Drive;
+use crate::files::{beside, bytes_of};
+use crate::questions::Failed;
 use crate::stop::{Stop, settled};
+use crate::table::Entry;
 use crate::words::{Stretch, add_next};
 use image::check::check;
 use image::header::Header;
 use image::shelf::ShelfImage;
+use indexmap::IndexMap;
 use std::alloc::{AllocError, Global};
-use std::path::Path;
+use std::path::PathBuf;
 use volume::Volume;
-use volume::answers::ReadAnswer;
+use volume::answers::ReadRefusal;
 
 #[derive(Drop)]
 pub(crate) struct Facts {
@@ -18,18 +21,21 @@ pub(crate) struct Facts {
     pub(crate) lost: Vec<Stretch>,
 }
 
-// An image that was asked for, under the path that the table has.
+// An image that was asked for, under the name that the table has for it first.
 #[derive(Drop)]
 pub(crate) struct Asked {
     pub(crate) name: String,
     pub(crate) facts: Result<Facts, String>,
 }
 
-fn lost_of(heap: Global, image: &ShelfImage) -> Result<Vec<Stretch>, AllocError> {
+pub(crate) type Images = IndexMap<PathBuf, Asked>;
+
+fn lost_of(heap: Global, image: &ShelfImage<&[u8]>) -> Result<Vec<Stretch>, AllocError> {
     let mut lost = Vec::new(heap);
     let mut buffer = [0u8; 512];
+    // n is the number of a block, and no index.
     for n in 0..image.count() {
-        if let ReadAnswer::Lost = image.read(n, &mut buffer) {
+        if let Err(ReadRefusal::Lost) = image.read(n, &mut buffer) {
             add_next(&mut lost, n)?;
         }
     }
@@ -38,13 +44,10 @@ fn lost_of(heap: Global, image: &ShelfImage) -> Result<Vec<Stretch>, AllocError>
 
 // The header of sound bytes, or the question that they fail.
 pub(crate) fn header_of(heap: Global, path: &str, bytes: &[u8]) -> Result<Header, Stop> {
-    match check(bytes) {
-        Ok(head) => Ok(head),
-        Err(fault) => {
-            let why = image_words(heap, fault)?;
-            Err(Stop::Said(format!(in heap; "{path}: {why}")?))
-        }
-    }
+    check(bytes).map_err(|fault| {
+        let failed = Failed::from(fault);
+        Stop::said(format!(in heap; "{path}: {failed}"))
+    })
 }
 
 pub(crate) fn facts_of(rt: &HostRuntime, path: &str) -> Result<Facts, Stop> {
@@ -59,36 +62,39 @@ pub(crate) fn facts_of(rt: &HostRuntime, path: &str) -> Result<Facts, Stop> {
     })
 }
 
-// Are the names one path, as a.img and ./a.img are?
-fn is_same(a: &str, b: &str) -> bool {
-    Path::new(a.trim_start_matches("./")) == Path::new(b.trim_start_matches("./"))
+// The facts of an image that a table names, or why it is refused.
+pub(crate) fn facts_beside(
+    rt: &HostRuntime,
+    table: &str,
+    name: &str,
+) -> Result<Result<Facts, String>, Stop> {
+    let path = beside(rt.alloc(), table, name)?;
+    settled(facts_of(rt, path.as_str()))
 }
 
-// Where the image of that name stands in the list.
-fn known(images: &[Asked], name: &str) -> Option<usize> {
-    for (i, asked) in images.iter().enumerate() {
-        if is_same(asked.name.as_str(), name) {
-            return Some(i);
+// How many blocks an image below the drive has, or why it cannot be the whole of the room.
+pub(crate) fn blocks_below<'a>(
+    drive: &Drive,
+    image: Option<&'a Result<Facts, String>>,
+) -> Result<u32, &'a str> {
+    match image {
+        Some(Ok(facts)) => Ok(facts.head.count),
+        Some(Err(why)) if drive.is_whole() => Err(why.as_str()),
+        _ => Ok(0),
+    }
+}
+
+// The images that the rooms name, in the order in which they are first named. Each is read once.
+pub(crate) fn images_of(rt: &HostRuntime, table: &str, entries: &[Entry]) -> Result<Images, Stop> {
+    let mut images = IndexMap::new(rt.alloc());
+    for name in entries.iter().filter_map(|entry| entry.image.as_ref()) {
+        if !images.contains_key(&name.path) {
+            let asked = Asked {
+                name: name.text.clone()?,
+                facts: facts_beside(rt, table, name.text.as_str())?,
+            };
+            images.insert(name.path.clone()?, asked)?;
         }
     }
-    None
-}
-
-// The index of the image in the list, which it joins where it is not in it yet: each image is read once.
-pub(crate) fn asked_for(
-    rt: &HostRuntime,
-    images: &mut Vec<Asked>,
-    name: &str,
-    path: &str,
-) -> Result<usize, Stop> {
-    if let Some(i) = known(images.as_slice(), name) {
-        return Ok(i);
-    }
-    let facts = settled(facts_of(rt, path))?;
-    let i = images.len();
-    images.push(Asked {
-        name: String::from_str(rt.alloc(), name)?,
-        facts,
-    })?;
-    Ok(i)
+    Ok(images)
 }

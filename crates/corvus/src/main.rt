@@ -1,14 +1,16 @@
 #![tactic(auto)]
 // corvus: rooms, their places on drives, house images and packets, from the command line.
+use opened::Room;
+use scenarios::Manner;
 use std::process::ExitCode;
 use stop::Stop;
 
 mod builds;
 mod columns;
+mod digits;
 mod drive;
 mod files;
 mod help;
-mod hex;
 mod images;
 mod map;
 mod opened;
@@ -25,79 +27,41 @@ mod stop;
 mod table;
 mod words;
 
-// How many words, at least and at most, follow the command. None for what is no command.
-fn arity(command: &str) -> Option<(usize, usize)> {
-    match command {
-        "help" => Some((0, 0)),
-        "--help" => Some((0, 0)),
-        "rooms" => Some((1, 1)),
-        "place" => Some((3, usize::MAX)),
-        "block" => Some((3, usize::MAX)),
-        "map" => Some((2, 2)),
-        "check" => Some((1, 1)),
-        "new" => Some((2, 2)),
-        "get" => Some((2, 2)),
-        "put" => Some((2, 2)),
-        "packet" => Some((0, usize::MAX)),
-        "build" => Some((1, usize::MAX)),
-        "run" => Some((0, 2)),
-        "serve" => Some((1, 3)),
-        "tables" => Some((1, 1)),
-        _ => None,
+// The command that the words say, where it is one and has as many words as it takes.
+fn obey(rt: &HostRuntime, words: &[&str]) -> Result<(), Stop> {
+    match words {
+        [] | ["help" | "--help"] => help::print(rt, help::TEXT),
+        ["run" | "serve" | "tables", "--help", ..] => help::print(rt, help::BOX),
+        ["rooms", table] => rooms::rooms(rt, table),
+        ["place", table, name, blocks @ ..] if !blocks.is_empty() => {
+            places::place(rt, Room { table, name }, blocks)
+        }
+        ["block", table, name, places @ ..] if !places.is_empty() => {
+            places::block(rt, Room { table, name }, places)
+        }
+        ["map", table, name] => map::map(rt, Room { table, name }),
+        ["check", image] => shelf::check(rt, image),
+        ["new", image, blocks] => shelf::new(rt, image, blocks),
+        ["get", image, block] => shelf::get(rt, image, block),
+        ["put", image, block] => shelf::put(rt, image, block),
+        ["packet", hex @ ..] => packets::explain(rt, hex),
+        ["build", words @ ..] if !words.is_empty() => builds::build_words(rt, words),
+        ["run"] => scenarios::run(rt, None, Manner::Shown),
+        ["run", "--save"] => scenarios::run(rt, None, Manner::Saved),
+        ["run", "--save", name] => scenarios::run(rt, Some(name), Manner::Saved),
+        ["run", name] | ["run", name, ""] => scenarios::run(rt, Some(name), Manner::Shown),
+        ["serve", image] => serve::serve(rt, image, None),
+        ["serve", image, table, name] => serve::serve(rt, image, Some(Room { table, name })),
+        ["tables", name] => scenarios::tables(rt, name),
+        [command, ..] => Err(help::refused(rt.alloc(), command)),
     }
-}
-
-// The command, with as many words as it takes.
-fn obey(rt: &HostRuntime, command: &str, words: &[String]) -> Result<(), Stop> {
-    let first = table::field(words, 1);
-    let second = table::field(words, 2);
-    match command {
-        "rooms" => rooms::rooms(rt, first),
-        "place" => places::place(rt, words),
-        "block" => places::block(rt, words),
-        "map" => map::map(rt, first, second),
-        "check" => shelf::check(rt, first),
-        "new" => shelf::new(rt, first, second),
-        "get" => shelf::get(rt, first, second),
-        "put" => shelf::put(rt, first, second),
-        "packet" => packets::explain(rt, words),
-        "build" => builds::build_words(rt, words),
-        "run" => scenarios::run(rt, words),
-        "serve" => serve::serve(rt, words),
-        "tables" => scenarios::tables(rt, first),
-        _ => help::print(rt),
-    }
-}
-
-fn run(rt: &HostRuntime, words: &[String]) -> Result<(), Stop> {
-    let Some(command) = words.first() else {
-        return help::print(rt);
-    };
-    let command = command.as_str();
-    if help::is_of_box(command) && table::field(words, 1) == "--help" {
-        return help::print_box(rt);
-    }
-    let Some((least, most)) = arity(command) else {
-        return Err(help::unknown(rt.alloc(), command)?);
-    };
-    let given = words.len().saturating_sub(1);
-    if given < least || given > most {
-        return Err(help::wrong_words(rt.alloc(), command)?);
-    }
-    obey(rt, command, words)
-}
-
-fn words_of(rt: &HostRuntime) -> Result<Vec<String>, Stop> {
-    let mut words = Vec::new(rt.alloc());
-    for word in std::env::args(rt)?.skip(1) {
-        words.push(word)?;
-    }
-    Ok(words)
 }
 
 fn started(rt: &HostRuntime) -> Result<(), Stop> {
-    let words = words_of(rt)?;
-    run(rt, words.as_slice())
+    let heap = rt.alloc();
+    let words: Vec<String> = std::env::args(rt)?.skip(1).collect(heap)?;
+    let words: Vec<&str> = words.iter().map(|word| word.as_str()).collect(heap)?;
+    obey(rt, words.as_slice())
 }
 
 // A command that ends early has its line on standard error, and status 1.

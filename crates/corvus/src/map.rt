@@ -1,12 +1,15 @@
 // A picture of a room's drive in text.
 use crate::columns::{Row, Side, laid_out};
 use crate::drive::Span;
-use crate::opened::{Opened, open};
+use crate::opened::{Opened, Room};
 use crate::stop::Stop;
-use crate::words::{Stretch, stretch_words, sum_of};
+use crate::words::{Stretch, add_lines, sum_of};
 use placement::tracks::SparedTracks;
 use placement::tracks::uses::PlaceUse;
 use std::alloc::{AllocError, Global};
+use std::fmt;
+use std::fmt::Write;
+use std::num::NonZeroU32;
 use volume::Placement;
 
 const COLUMNS: usize = 64;
@@ -14,199 +17,156 @@ const COLUMNS: usize = 64;
 const CELLS: usize = 1024;
 
 // What a track, or a block of a drive without tracks, is; the more alarming first.
-#[derive(Clone, Copy, PartialEq, Eq)]
+#[derive(Clone, Copy, PartialEq, Eq, PartialOrd, Ord)]
 enum Mark {
-    Lost = 0,
-    Spared = 1,
-    Room = 2,
-    Firmware = 3,
-    Unused = 4,
-    Reserve = 5,
+    Lost,
+    Spared,
+    Room,
+    Firmware,
+    Unused,
+    Reserve,
 }
 
-fn letter(mark: Mark) -> char {
-    match mark {
-        Mark::Lost => '!',
-        Mark::Spared => 'x',
-        Mark::Room => '#',
-        Mark::Firmware => 'F',
-        Mark::Unused => '-',
-        Mark::Reserve => '.',
-    }
-}
-
-fn mark_words(mark: Mark) -> &'static str {
-    match mark {
-        Mark::Lost => "holds a lost block",
-        Mark::Spared => "spared",
-        Mark::Room => "blocks of the room",
-        Mark::Firmware => "firmware",
-        Mark::Unused => "usable, not in the window",
-        Mark::Reserve => "reserve",
-    }
-}
-
-// Does one of the track's blocks, from n on, lie in the window?
-fn touches(window: Option<Span>, n: u32, sectors: u32) -> bool {
-    match window {
-        None => true,
-        Some(span) => {
-            span.offset < n.saturating_add(sectors) && n < span.offset.saturating_add(span.length)
+impl Mark {
+    // Not the letters as the cases' numbers, whose order is that of alarm.
+    fn letter(self) -> char {
+        match self {
+            Mark::Lost => '!',
+            Mark::Spared => 'x',
+            Mark::Room => '#',
+            Mark::Firmware => 'F',
+            Mark::Unused => '-',
+            Mark::Reserve => '.',
         }
+    }
+}
+
+impl fmt::Display for Mark {
+    fn fmt<W: fmt::Write>(&self, f: &mut fmt::Formatter<W>) -> fmt::Result {
+        f.write_str(match self {
+            Mark::Lost => "holds a lost block",
+            Mark::Spared => "spared",
+            Mark::Room => "blocks of the room",
+            Mark::Firmware => "firmware",
+            Mark::Unused => "usable, not in the window",
+            Mark::Reserve => "reserve",
+        })
     }
 }
 
 fn track_mark(tracks: &SparedTracks, window: Option<Span>, track: u32) -> Mark {
     let sectors = tracks.shape().sectors;
     match tracks.use_of(track.saturating_mul(sectors)) {
-        PlaceUse::Block(n) => {
-            if touches(window, n, sectors) {
-                Mark::Room
-            } else {
-                Mark::Unused
-            }
-        }
+        PlaceUse::Block(n) if window.is_none_or(|span| span.touches(n, sectors)) => Mark::Room,
+        PlaceUse::Block(_) => Mark::Unused,
         PlaceUse::Firmware => Mark::Firmware,
         PlaceUse::Spared => Mark::Spared,
-        _ => Mark::Reserve,
+        PlaceUse::Reserve | PlaceUse::Outside => Mark::Reserve,
     }
 }
 
-fn track_marks(
-    heap: Global,
-    tracks: &SparedTracks,
-    window: Option<Span>,
-) -> Result<Vec<Mark>, AllocError> {
-    let mut marks = Vec::new(heap);
-    for track in 0..tracks.shape().tracks {
-        marks.push(track_mark(tracks, window, track))?;
+fn block_mark(room: &Opened, place: u32) -> Mark {
+    match room.pile.block_at(place) {
+        Some(_) => Mark::Room,
+        None => Mark::Unused,
     }
-    Ok(marks)
-}
-
-fn block_marks(heap: Global, room: &Opened) -> Result<Vec<Mark>, AllocError> {
-    let image = match room.facts() {
-        Some(facts) => facts.head.count,
-        None => 0,
-    };
-    let mut marks = Vec::new(heap);
-    for place in 0..image.max(room.pile.total()) {
-        marks.push(match room.pile.block_at(place) {
-            Some(_) => Mark::Room,
-            None => Mark::Unused,
-        })?;
-    }
-    Ok(marks)
 }
 
 fn marks_of(heap: Global, room: &Opened) -> Result<Vec<Mark>, AllocError> {
-    match &room.drive.tracks {
-        Some(tracks) => track_marks(heap, tracks, room.drive.window),
-        None => block_marks(heap, room),
+    if let Some(tracks) = &room.drive.tracks {
+        return (0..tracks.shape().tracks)
+            .map(|track| track_mark(tracks, room.drive.window, track))
+            .collect(heap);
+    }
+    let image = room.facts().map_or(0, |facts| facts.head.count);
+    (0..image.max(room.pile.total()))
+        .map(|place| block_mark(room, place))
+        .collect(heap)
+}
+
+// Marks what holds a lost block, where each mark is of so many places.
+fn mark_lost(marks: &mut [Mark], places: NonZeroU32, lost: Stretch) {
+    let first = lost.first / places;
+    let last = lost.last / places;
+    let held = last.saturating_sub(first).saturating_add(1);
+    for mark in marks.iter_mut().skip(first as usize).take(held as usize) {
+        *mark = Mark::Lost;
     }
 }
 
-fn mark_lost(marks: &mut Vec<Mark>, from: u32, to: u32) {
-    for i in from..to {
-        if let Some(mark) = marks.get_mut(i as usize) {
-            *mark = Mark::Lost;
-        }
-    }
+// A character for each of the chunks, which is the first of its marks.
+fn letters(heap: Global, line: &[Mark], scale: usize) -> Result<String, AllocError> {
+    line.chunks(scale.max(1))
+        .filter_map(|cell| cell.iter().copied().min())
+        .map(|mark| mark.letter())
+        .collect(heap)
 }
 
-// Marks what holds a lost block.
-fn mark_all_lost(marks: &mut Vec<Mark>, sectors: u32, lost: &[Stretch]) {
-    if sectors == 0 {
-        return;
-    }
-    for s in lost {
-        mark_lost(
-            marks,
-            s.first / sectors,
-            (s.last / sectors).saturating_add(1),
-        );
-    }
-}
-
-fn worst(marks: &[Mark]) -> Mark {
-    let mut found = Mark::Reserve;
-    for mark in marks {
-        if (*mark as u8) < (found as u8) {
-            found = *mark;
-        }
-    }
-    found
-}
-
+// The number is that of a mark, and no index.
 // A character for each `scale` marks, 64 to a line, with the number of the line's first before it.
 fn picture(heap: Global, marks: &[Mark], scale: usize) -> Result<String, AllocError> {
     let mut out = String::new(heap);
-    if scale == 0 {
-        return Ok(out);
+    let width = scale.saturating_mul(COLUMNS).max(1);
+    for (i, line) in marks.chunks(width).enumerate() {
+        let first = i.saturating_mul(width);
+        let letters = letters(heap, line, scale)?;
+        writeln!(out, "{first:>8}  {letters}")?;
     }
-    for (i, cell) in marks.chunks(scale).enumerate() {
-        if i % COLUMNS == 0 {
-            let first = i.saturating_mul(scale);
-            let end = if i == 0 { "" } else { "\n" };
-            let label = format!(in heap; "{end}{first:>8}  ")?;
-            out.push_str(label.as_str())?;
-        }
-        out.push(letter(worst(cell)))?;
-    }
-    out.push('\n')?;
     Ok(out)
 }
 
-// Equal neighbours joined.
-fn joined(heap: Global, marks: &[Mark]) -> Result<Vec<(Stretch, Mark)>, AllocError> {
-    let mut out = Vec::new(heap);
-    let mut first = 0u32;
-    let mut last = 0u32;
-    for (i, mark) in marks.iter().enumerate() {
-        let goes_on = match marks.get(i.saturating_add(1)) {
-            Some(next) => *next == *mark,
-            None => false,
-        };
-        if !goes_on {
-            out.push((Stretch { first, last }, *mark))?;
-            first = last.saturating_add(1);
+// Neighbours of the same mark.
+#[derive(Clone, Copy)]
+struct Alike {
+    stretch: Stretch,
+    mark: Mark,
+}
+
+// Equal neighbours joined. Not counted by the library: the counts would have to be added up to numbers again.
+fn joined(heap: Global, marks: &[Mark]) -> Result<Vec<Alike>, AllocError> {
+    let mut out: Vec<Alike> = Vec::new(heap);
+    for (n, mark) in (0..u32::MAX).zip(marks.iter().copied()) {
+        match out.last_mut() {
+            Some(alike) if alike.mark == mark => alike.stretch.last = n,
+            _ => out.push(Alike {
+                stretch: Stretch { first: n, last: n },
+                mark,
+            })?,
         }
-        last = last.saturating_add(1);
     }
     Ok(out)
+}
+
+fn alike_row(heap: Global, alike: &Alike) -> Result<Row, AllocError> {
+    Ok(Row {
+        cells: vec![in heap; String::new(heap), alike.stretch.to_string(heap)?]?,
+        tail: alike.mark.to_string(heap)?,
+    })
 }
 
 fn stretch_lines(heap: Global, marks: &[Mark]) -> Result<String, AllocError> {
-    let mut rows = Vec::new(heap);
-    for (s, mark) in joined(heap, marks)?.iter() {
-        let mut cells = Vec::new(heap);
-        cells.push(String::new(heap))?;
-        cells.push(stretch_words(heap, *s)?)?;
-        rows.push(Row {
-            cells,
-            tail: String::from_str(heap, mark_words(*mark))?,
-        })?;
-    }
+    let rows: Vec<Row> = joined(heap, marks)?
+        .iter()
+        .map(|alike| alike_row(heap, alike))
+        .try_collect(heap)?;
     laid_out(heap, rows.as_slice(), &[Side::Left, Side::Left])
 }
 
 fn lost_lines(heap: Global, lost: &[Stretch]) -> Result<String, AllocError> {
-    let sum = sum_of(lost);
-    if sum == 0 {
+    if lost.is_empty() {
         return String::from_str(heap, "lost blocks of the image: none\n");
     }
+    let sum = sum_of(lost);
+    let (shown, more) = lost.split_at(lost.len().min(20));
     let mut out = format!(in heap; "lost blocks of the image, by place: {sum}\n")?;
-    for s in lost.iter().take(20) {
-        out.push_str("  ")?;
-        out.push_str(stretch_words(heap, *s)?.as_str())?;
-        out.push('\n')?;
+    add_lines(&mut out, "  ", shown)?;
+    match more.len() {
+        0 => Ok(out),
+        more => {
+            writeln!(out, "  and {more} more")?;
+            Ok(out)
+        }
     }
-    let more = lost.len().saturating_sub(20);
-    if more > 0 {
-        let line = format!(in heap; "  and {more} more\n")?;
-        out.push_str(line.as_str())?;
-    }
-    Ok(out)
 }
 
 const BY_TRACK: [Mark; 6] = [
@@ -220,13 +180,31 @@ const BY_TRACK: [Mark; 6] = [
 
 const BY_BLOCK: [Mark; 3] = [Mark::Lost, Mark::Room, Mark::Unused];
 
-fn legend(heap: Global, marks: &[Mark]) -> Result<String, AllocError> {
+fn unit(room: &Opened) -> &'static str {
+    match room.drive.sectors() {
+        Some(_) => "track",
+        None => "block",
+    }
+}
+
+// What is drawn: so many blocks on n tracks or among n blocks.
+fn subject(heap: Global, room: &Opened, n: usize) -> Result<String, AllocError> {
+    let blocks = room.pile.count();
+    match room.drive.sectors() {
+        Some(sectors) => format!(in heap; "{blocks} blocks on {n} tracks of {sectors} sectors"),
+        None => format!(in heap; "{blocks} of {n} blocks"),
+    }
+}
+
+fn legend(heap: Global, room: &Opened) -> Result<String, AllocError> {
+    let marks = match room.drive.sectors() {
+        Some(_) => BY_TRACK.as_slice(),
+        None => BY_BLOCK.as_slice(),
+    };
     let mut out = String::new(heap);
     for mark in marks {
-        let sign = letter(*mark);
-        let what = mark_words(*mark);
-        let line = format!(in heap; "  {sign}  {what}\n")?;
-        out.push_str(line.as_str())?;
+        let letter = mark.letter();
+        writeln!(out, "  {letter}  {mark}")?;
     }
     Ok(out)
 }
@@ -239,52 +217,37 @@ fn heading(
     n: usize,
     scale: usize,
 ) -> Result<String, AllocError> {
-    let blocks = room.pile.count();
-    let sectors = room.sectors();
-    let (what, unit, marks) = if sectors == 0 {
-        (
-            format!(in heap; "{blocks} of {n} blocks")?,
-            "block",
-            legend(heap, &BY_BLOCK)?,
-        )
-    } else {
-        (
-            format!(in heap; "{blocks} blocks on {n} tracks of {sectors} sectors")?,
-            "track",
-            legend(heap, &BY_TRACK)?,
-        )
-    };
+    let subject = subject(heap, room, n)?;
+    let unit = unit(room);
+    let legend = legend(heap, room)?;
     if scale < 2 {
-        return format!(in heap; "room {name}: {what}\neach character is one {unit}\n{marks}");
+        return format!(in heap; "room {name}: {subject}\neach character is one {unit}\n{legend}");
     }
     format!(in heap;
-        "room {name}: {what}\neach character is {scale} {unit}s, and shows the first of these that one of them is\n{marks}"
+        "room {name}: {subject}\neach character is {scale} {unit}s, and shows the first of these that one of them is\n{legend}"
     )
 }
 
 // The heading, the picture, and the stretches, which say what is there besides what is lost.
 fn drawing(heap: Global, name: &str, room: &Opened) -> Result<String, AllocError> {
     let mut marks = marks_of(heap, room)?;
-    let scale = marks.len().saturating_add(CELLS - 1) / CELLS;
+    let scale = marks.len().div_ceil(CELLS);
     let head = heading(heap, name, room, marks.len(), scale)?;
     let stretches = stretch_lines(heap, marks.as_slice())?;
-    if let Some(facts) = room.facts() {
-        mark_all_lost(&mut marks, room.sectors().max(1), facts.lost.as_slice());
+    let places = room.drive.sectors().unwrap_or(NonZeroU32::MIN);
+    for &lost in room.lost() {
+        mark_lost(marks.as_mut_slice(), places, lost);
     }
     let drawn = picture(heap, marks.as_slice(), scale)?;
-    let unit = if room.sectors() == 0 {
-        "blocks"
-    } else {
-        "tracks"
-    };
-    format!(in heap; "{head}\n{drawn}\n{unit}\n{stretches}")
+    let unit = unit(room);
+    format!(in heap; "{head}\n{drawn}\n{unit}s\n{stretches}")
 }
 
-pub(crate) fn map(rt: &HostRuntime, table: &str, name: &str) -> Result<(), Stop> {
+pub(crate) fn map(rt: &HostRuntime, room: Room<'_>) -> Result<(), Stop> {
     let heap = rt.alloc();
-    let room = open(rt, table, name)?;
-    rt.print(drawing(heap, name, &room)?)?;
-    if let Some(facts) = room.facts() {
+    let opened = room.open(rt)?;
+    rt.print(drawing(heap, room.name, &opened)?)?;
+    if let Some(facts) = opened.facts() {
         rt.print(lost_lines(heap, facts.lost.as_slice())?)?;
     }
     Ok(())

@@ -1,15 +1,23 @@
 // One room of a table, with its drive and its image.
-use crate::drive::{Drive, pile_of};
-use crate::files::beside;
-use crate::images::{Facts, facts_of};
-use crate::stop::{Stop, settled};
+use crate::drive::Drive;
+use crate::images::{Facts, blocks_below, facts_beside};
+use crate::stop::Stop;
 use crate::table;
 use crate::table::Entry;
+use crate::words::Stretch;
 use pile::Pile;
 use pile::layer::Layer;
-use std::alloc::{AllocError, Global};
+use std::alloc::Global;
 use volume::Placement;
 
+// A room as a person names it.
+#[derive(Clone, Copy)]
+pub(crate) struct Room<'a> {
+    pub(crate) table: &'a str,
+    pub(crate) name: &'a str,
+}
+
+// What one command says of a room stands with that command: methods of this would all lie here.
 // The image below the room's drive: None where the table names none, else its facts or why it is refused.
 #[derive(Drop)]
 pub(crate) struct Opened {
@@ -20,110 +28,54 @@ pub(crate) struct Opened {
 
 impl Opened {
     pub(crate) fn facts(&self) -> Option<&Facts> {
-        match &self.image {
-            Some(Ok(facts)) => Some(facts),
-            _ => None,
-        }
+        self.image.as_ref()?.as_ref().ok()
     }
 
-    // The sectors of a track, or 0 where the drive has no tracks.
-    pub(crate) fn sectors(&self) -> u32 {
-        match &self.drive.tracks {
-            Some(tracks) => tracks.shape().sectors,
-            None => 0,
-        }
+    // The lost blocks of the image, where there is one.
+    pub(crate) fn lost(&self) -> &[Stretch] {
+        self.facts().map_or(&[], |facts| facts.lost.as_slice())
     }
 }
 
-fn named(entries: Vec<Entry>, name: &str) -> Option<Entry> {
-    for entry in entries {
-        if entry.name.as_str() == name {
-            return Some(entry);
-        }
+impl Room<'_> {
+    fn entry(self, rt: &HostRuntime) -> Result<Entry, Stop> {
+        let Room { table, name } = self;
+        table::read(rt, table)?
+            .into_iter()
+            .find(|entry| entry.is_named(name))
+            .ok_or_else(|| Stop::said(format!(in rt.alloc(); "{table}: no room is named {name}")))
     }
-    None
-}
 
-fn image_below(
-    rt: &HostRuntime,
-    table: &str,
-    name: &str,
-) -> Result<Option<Result<Facts, String>>, Stop> {
-    if name.is_empty() {
-        return Ok(None);
+    // Why the room on that line cannot be opened.
+    fn closed(self, heap: Global, line: usize, why: &str) -> Stop {
+        let Room { table, name } = self;
+        Stop::said(format!(in heap; "{table}, line {line}: room {name}: {why}"))
     }
-    let path = beside(rt.alloc(), table, name)?;
-    Ok(Some(settled(facts_of(rt, path.as_str()))?))
-}
 
-// Why a room of the table cannot be opened.
-fn closed(heap: Global, table: &str, entry: (usize, &str), why: &str) -> Result<Stop, AllocError> {
-    let (line, name) = entry;
-    Ok(Stop::Said(format!(in heap; "{table}, line {line}: room {name}: {why}")?))
-}
-
-fn opened_drive(
-    heap: Global,
-    table: &str,
-    entry: (usize, &str),
-    drive: Drive,
-    image: Option<Result<Facts, String>>,
-) -> Result<Opened, Stop> {
-    let count = match &image {
-        None => 0,
-        Some(Ok(facts)) => facts.head.count,
-        Some(Err(why)) => {
-            if drive.is_whole() {
-                return Err(closed(heap, table, entry, why.as_str())?);
-            }
-            0
-        }
-    };
-    let pile = pile_of(heap, &drive, count)?;
-    Ok(Opened { drive, pile, image })
-}
-
-fn entry_of(rt: &HostRuntime, table: &str, room: &str) -> Result<Entry, Stop> {
-    let entries = table::read(rt, table)?;
-    match named(entries, room) {
-        Some(entry) => Ok(entry),
-        None => Err(Stop::Said(format!(in rt.alloc(); "{table}: no room is named {room}")?)),
+    // The room's placements, on an image of that many blocks. As `open`, it takes the line of the table apart, and needs less of it.
+    pub(crate) fn pile(self, rt: &HostRuntime, count: u32) -> Result<Pile<Layer>, Stop> {
+        let heap = rt.alloc();
+        let Entry { line, drive, .. } = self.entry(rt)?;
+        let drive = drive.map_err(|why| self.closed(heap, line, why.as_str()))?;
+        drive.pile(heap, count)
     }
-}
 
-// The room's placements, on an image of that many blocks.
-pub(crate) fn room_pile(
-    rt: &HostRuntime,
-    table: &str,
-    room: &str,
-    count: u32,
-) -> Result<Pile<Layer>, Stop> {
-    let heap = rt.alloc();
-    let Entry {
-        line,
-        name,
-        drive,
-        ..
-    } = entry_of(rt, table, room)?;
-    match drive {
-        Err(why) => Err(closed(heap, table, (line, name.as_str()), why.as_str())?),
-        Ok(drive) => pile_of(heap, &drive, count),
-    }
-}
-
-pub(crate) fn open(rt: &HostRuntime, table: &str, room: &str) -> Result<Opened, Stop> {
-    let heap = rt.alloc();
-    let Entry {
-        line,
-        name,
-        image,
-        drive,
-    } = entry_of(rt, table, room)?;
-    match drive {
-        Err(why) => Err(closed(heap, table, (line, name.as_str()), why.as_str())?),
-        Ok(drive) => {
-            let image = image_below(rt, table, image.as_str())?;
-            opened_drive(heap, table, (line, name.as_str()), drive, image)
-        }
+    pub(crate) fn open(self, rt: &HostRuntime) -> Result<Opened, Stop> {
+        let heap = rt.alloc();
+        let Entry {
+            line,
+            image,
+            drive,
+            ..
+        } = self.entry(rt)?;
+        let drive = drive.map_err(|why| self.closed(heap, line, why.as_str()))?;
+        let image = image
+            .map(|name| facts_beside(rt, self.table, name.text.as_str()))
+            .transpose()?;
+        let count = blocks_below(&drive, image.as_ref()).map_err(|why| self.closed(
+            heap, line, why,
+        ))?;
+        let pile = drive.pile(heap, count)?;
+        Ok(Opened { drive, pile, image })
     }
 }

@@ -1,34 +1,29 @@
 // The controller's tables in words: who holds which semaphore, and which block of the pipe area is whose.
 use crate::columns::{Row, Side, laid_out, title};
-use crate::packets::name_words;
+use crate::packets::Name;
 use crate::stop::Stop;
-use crate::words::{Stretch, stretch_words};
+use crate::words::Stretch;
 use controller::controller::Controller;
+use model::names::BLANK;
 use model::pipe::{Access, Area, Pipe};
+use pile::runs::Run;
 use std::alloc::{AllocError, Global};
 use store::drive::Drive;
 use store::noted::Noted;
 
-// Eight blanks, the name of an unused entry.
-const UNUSED: u64 = 0x2020_2020_2020_2020;
-
-fn semaphore_rows(heap: Global, names: &[u64]) -> Result<Vec<Row>, AllocError> {
-    let mut rows = Vec::new(heap);
-    rows.push(title(heap, &["entry"], "name")?)?;
-    for (i, name) in names.iter().enumerate() {
-        if *name != UNUSED {
-            let mut cells = Vec::new(heap);
-            cells.push(i.to_string(heap)?)?;
-            let tail = name_words(heap, *name)?;
-            rows.push(Row { cells, tail })?;
-        }
-    }
-    Ok(rows)
+fn semaphore_row(heap: Global, entry: usize, name: u64) -> Result<Row, AllocError> {
+    Ok(Row {
+        cells: vec![in heap; entry.to_string(heap)?]?,
+        tail: Name(name).to_string(heap)?,
+    })
 }
 
 fn print_semaphores(rt: &HostRuntime, names: &[u64]) -> Result<(), Stop> {
     let heap = rt.alloc();
-    let rows = semaphore_rows(heap, names)?;
+    let mut rows = vec![in heap; title(heap, &["entry"], "name")?]?;
+    for (i, &name) in names.iter().enumerate().filter(|&(_, &name)| name != BLANK) {
+        rows.push(semaphore_row(heap, i, name)?)?;
+    }
     if rows.len() < 2 {
         rt.println("no semaphore is locked")?;
         return Ok(());
@@ -38,6 +33,7 @@ fn print_semaphores(rt: &HostRuntime, names: &[u64]) -> Result<(), Stop> {
     Ok(())
 }
 
+// A function, since the type is another crate's.
 fn access_words(access: Access) -> &'static str {
     match access {
         Access::Closed => "not open",
@@ -51,28 +47,32 @@ fn blocks_words(heap: Global, first: u32, length: u32) -> Result<String, AllocEr
     if length == 0 {
         return String::from_str(heap, "none");
     }
-    let last = first.saturating_add(length).saturating_sub(1);
-    stretch_words(heap, Stretch { first, last })
+    Stretch::from(Run {
+        first,
+        count: length,
+    })
+    .to_string(heap)
 }
 
-fn pipe_row(heap: Global, pipe: Pipe) -> Result<Row, AllocError> {
+fn pipe_row(heap: Global, pipe: &Pipe) -> Result<Row, AllocError> {
     let length = pipe.end.saturating_sub(pipe.start);
-    let mut cells = Vec::new(heap);
-    cells.push(pipe.number.to_string(heap)?)?;
-    cells.push(name_words(heap, pipe.name)?)?;
-    cells.push(pipe.start.to_string(heap)?)?;
-    cells.push(length.to_string(heap)?)?;
-    cells.push(blocks_words(heap, pipe.start, length)?)?;
-    let tail = String::from_str(heap, access_words(pipe.access))?;
-    Ok(Row { cells, tail })
+    Ok(Row {
+        cells: vec![in heap;
+            pipe.number.to_string(heap)?,
+            Name(pipe.name).to_string(heap)?,
+            pipe.start.to_string(heap)?,
+            length.to_string(heap)?,
+            blocks_words(heap, pipe.start, length)?,
+        ]?,
+        tail: String::from_str(heap, access_words(pipe.access))?,
+    })
 }
 
 fn pipe_rows(heap: Global, pipes: &[Pipe]) -> Result<Vec<Row>, AllocError> {
-    let mut rows = Vec::new(heap);
     let names = ["pipe", "name", "first", "length", "blocks"];
-    rows.push(title(heap, &names, "state")?)?;
+    let mut rows = vec![in heap; title(heap, &names, "state")?]?;
     for pipe in pipes {
-        rows.push(pipe_row(heap, *pipe)?)?;
+        rows.push(pipe_row(heap, pipe)?)?;
     }
     Ok(rows)
 }

@@ -1,16 +1,31 @@
 // From blocks to places, and from places to blocks.
 use crate::columns::{Row, Side, laid_out, title};
 use crate::drive::Drive;
-use crate::opened::{Opened, open};
+use crate::opened::{Opened, Room};
 use crate::stop::Stop;
-use crate::table::field;
 use crate::words::number_word;
+use itertools::Itertools;
 use placement::tracks::uses::PlaceUse;
 use std::alloc::{AllocError, Global};
+use std::fmt::Display;
 use volume::Placement;
 
+// A block or a place that a person asks for, and the word that says it.
+#[derive(Clone, Copy)]
+struct Asked<'a> {
+    word: &'a str,
+    number: u32,
+}
+
+fn asked_words<'a>(heap: Global, what: &str, words: &[&'a str]) -> Result<Vec<Asked<'a>>, Stop> {
+    words
+        .iter()
+        .map(|&word| number_word(heap, what, word).map(|number| Asked { word, number }))
+        .try_collect(heap)
+}
+
 // The number, or a dash where there is none.
-fn or_dash(heap: Global, n: Option<u32>) -> Result<String, AllocError> {
+fn or_dash<T: Display + Drop>(heap: Global, n: Option<T>) -> Result<String, AllocError> {
     match n {
         Some(n) => n.to_string(heap),
         None => String::from_str(heap, "-"),
@@ -33,41 +48,41 @@ fn no_byte(heap: Global, room: &Opened) -> Result<Option<String>, AllocError> {
     }
 }
 
-fn byte_words(heap: Global, room: &Opened, place: u32) -> Result<String, AllocError> {
-    if let Some(facts) = room.facts() {
-        if room.pile.total() <= facts.head.count {
-            if let Some(byte) = facts.head.block_byte(place) {
-                return byte.to_string(heap);
-            }
-        }
+// The byte of the image at which the place begins, where the drive fits the image.
+fn byte_of(room: &Opened, place: u32) -> Option<u64> {
+    let head = room.facts()?.head;
+    if room.pile.total() > head.count {
+        return None;
     }
-    String::from_str(heap, "-")
+    head.block_byte(place)
 }
 
-fn found_row(heap: Global, room: &Opened, word: &str, place: u32) -> Result<Row, Stop> {
-    let sectors = room.sectors();
-    let mut cells = Vec::new(heap);
-    cells.push(String::from_str(heap, word)?)?;
-    cells.push(place.to_string(heap)?)?;
-    cells.push(or_dash(heap, place.checked_div(sectors))?)?;
-    cells.push(or_dash(heap, place.checked_rem(sectors))?)?;
-    cells.push(byte_words(heap, room, place)?)?;
-    let tail = String::new(heap);
-    Ok(Row { cells, tail })
+fn found_row(heap: Global, room: &Opened, word: &str, place: u32) -> Result<Row, AllocError> {
+    let sectors = room.drive.sectors();
+    Ok(Row {
+        cells: vec![in heap;
+            String::from_str(heap, word)?,
+            place.to_string(heap)?,
+            or_dash(heap, sectors.map(|sectors| place / sectors))?,
+            or_dash(heap, sectors.map(|sectors| place % sectors))?,
+            or_dash(heap, byte_of(room, place))?,
+        ]?,
+        tail: String::new(heap),
+    })
 }
 
-fn place_row(heap: Global, room: &Opened, word: &str, block: u32) -> Result<Row, Stop> {
-    if let Some(place) = room.pile.place(block) {
-        return found_row(heap, room, word, place);
+fn place_row(heap: Global, room: &Opened, block: Asked<'_>) -> Result<Row, AllocError> {
+    if let Some(place) = room.pile.place(block.number) {
+        return found_row(heap, room, block.word, place);
     }
     let count = room.pile.count();
-    let mut cells = Vec::new(heap);
-    cells.push(String::from_str(heap, word)?)?;
-    let tail = format!(in heap; "none: the room has {count} blocks")?;
-    Ok(Row { cells, tail })
+    Ok(Row {
+        cells: vec![in heap; String::from_str(heap, block.word)?]?,
+        tail: format!(in heap; "none: the room has {count} blocks")?,
+    })
 }
 
-// Why no block of the room lies at the place.
+// Why no block of the room lies at the place. A function, since the use is another crate's.
 fn why_none(drive: &Drive, place: u32) -> &'static str {
     match &drive.tracks {
         Some(tracks) => match tracks.use_of(place) {
@@ -77,82 +92,65 @@ fn why_none(drive: &Drive, place: u32) -> &'static str {
             PlaceUse::Reserve => "reserve",
             PlaceUse::Outside => "outside the drive",
         },
-        None => {
-            if drive.window.is_some() {
-                "outside the window"
-            } else {
-                "outside the drive"
-            }
-        }
+        None if drive.window.is_some() => "outside the window",
+        None => "outside the drive",
     }
 }
 
-fn block_row(heap: Global, room: &Opened, word: &str, place: u32) -> Result<Row, Stop> {
-    let mut cells = Vec::new(heap);
-    cells.push(String::from_str(heap, word)?)?;
-    let tail = match room.pile.block_at(place) {
+fn block_row(heap: Global, room: &Opened, place: Asked<'_>) -> Result<Row, AllocError> {
+    let tail = match room.pile.block_at(place.number) {
         Some(block) => block.to_string(heap)?,
         None => {
-            let why = why_none(&room.drive, place);
+            let why = why_none(&room.drive, place.number);
             format!(in heap; "none: {why}")?
         }
     };
-    Ok(Row { cells, tail })
+    Ok(Row {
+        cells: vec![in heap; String::from_str(heap, place.word)?]?,
+        tail,
+    })
 }
 
-// The words from the fourth on as numbers.
-fn numbers(heap: Global, what: &str, words: &[String]) -> Result<Vec<u32>, Stop> {
-    let mut out = Vec::new(heap);
-    for word in words.iter().skip(3) {
-        out.push(number_word(heap, what, word.as_str())?)?;
-    }
-    Ok(out)
-}
-
-fn place_lines(
+// The title, and a row for each that is asked for: pushed behind it, where a chain would need a second list.
+fn rows<F: Fn(Asked<'_>) -> Result<Row, AllocError>>(
     heap: Global,
-    room: &Opened,
-    words: &[String],
-    blocks: &[u32],
-) -> Result<String, Stop> {
-    let names = ["block", "place", "track", "sector", "byte"];
-    let mut rows = Vec::new(heap);
-    rows.push(title(heap, &names, "")?)?;
-    for (word, block) in words.iter().skip(3).zip(blocks.iter()) {
-        rows.push(place_row(heap, room, word.as_str(), *block)?)?;
+    title: Row,
+    asked: &[Asked<'_>],
+    row: F,
+) -> Result<Vec<Row>, AllocError>
+    requires { F.IsAlwaysCallable row }
+{
+    let mut rows = vec![in heap; title]?;
+    for &one in asked {
+        rows.push(row(one)?)?;
     }
-    Ok(laid_out(heap, rows.as_slice(), &[Side::Right; 5])?)
+    Ok(rows)
 }
 
-pub(crate) fn place(rt: &HostRuntime, words: &[String]) -> Result<(), Stop> {
+// What `place` and `block` share is `rows`; titles, sides and rows are their own.
+pub(crate) fn place(rt: &HostRuntime, room: Room<'_>, words: &[&str]) -> Result<(), Stop> {
     let heap = rt.alloc();
-    let blocks = numbers(heap, "block", words)?;
-    let room = open(rt, field(words, 1), field(words, 2))?;
-    rt.print(place_lines(heap, &room, words, blocks.as_slice())?)?;
+    let blocks = asked_words(heap, "block", words)?;
+    let room = room.open(rt)?;
+    let title = title(heap, &["block", "place", "track", "sector", "byte"], "")?;
+    let rows = rows(heap, title, blocks.as_slice(), |block| {
+        place_row(heap, &room, block)
+    })?;
+    rt.print(laid_out(heap, rows.as_slice(), &[Side::Right; 5])?)?;
     if let Some(why) = no_byte(heap, &room)? {
         println!(rt; "no byte offsets: {why}")?;
     }
     Ok(())
 }
 
-fn block_lines(
-    heap: Global,
-    room: &Opened,
-    words: &[String],
-    places: &[u32],
-) -> Result<String, Stop> {
-    let mut rows = Vec::new(heap);
-    rows.push(title(heap, &["place"], "block")?)?;
-    for (word, place) in words.iter().skip(3).zip(places.iter()) {
-        rows.push(block_row(heap, room, word.as_str(), *place)?)?;
-    }
-    Ok(laid_out(heap, rows.as_slice(), &[Side::Right])?)
-}
-
-pub(crate) fn block(rt: &HostRuntime, words: &[String]) -> Result<(), Stop> {
+pub(crate) fn block(rt: &HostRuntime, room: Room<'_>, words: &[&str]) -> Result<(), Stop> {
     let heap = rt.alloc();
-    let places = numbers(heap, "place", words)?;
-    let room = open(rt, field(words, 1), field(words, 2))?;
-    rt.print(block_lines(heap, &room, words, places.as_slice())?)?;
+    let places = asked_words(heap, "place", words)?;
+    let room = room.open(rt)?;
+    let title = title(heap, &["place"], "block")?;
+    let rows = rows(heap, title, places.as_slice(), |place| {
+        block_row(heap, &room, place)
+    })?;
+    rt.print(laid_out(heap, rows.as_slice(), &[Side::Right])?)?;
     Ok(())
 }

@@ -1,52 +1,65 @@
-// The numbered questions that an image and a placement have to pass, in words.
+// The numbered questions that an image, a placement and a packet have to pass.
 use crate::stop::Stop;
+use build::refusal::BuildRefusal;
 use image::fault::Fault;
+use packet::fault::PacketFault;
 use placement::refusal::Refusal;
-use std::alloc::{AllocError, Global};
+use std::alloc::Global;
+use std::fmt;
 
-fn of_image(fault: Fault) -> &'static str {
-    match fault {
-        Fault::Short => "are there 16 bytes?",
-        Fault::Length => "is the length in the header that of the file?",
-        Fault::Count => "is the block count 1 to 1,048,576?",
-        Fault::Map => "do the map bytes lie behind the header and within the file?",
-        Fault::Blocks => "do the block bytes lie behind the header and within the file?",
-        Fault::Overlap => "do map and blocks share no byte?",
+// A question that was not passed, in the words of what refuses it.
+// The number stands beside it, and each kind has a From of its own: each refusal is another crate's type, and nothing
+// below them all holds a trait that tells the number.
+#[derive(Clone, Copy)]
+pub(crate) struct Failed<Q> {
+    number: u8,
+    question: Q,
+}
+
+impl<Q: fmt::Display + Copy> Failed<Q> {
+    pub(crate) fn stop(self, heap: Global) -> Stop {
+        Stop::said(format!(in heap; "{self}"))
     }
 }
 
-fn of_placement(refusal: Refusal) -> &'static str {
-    match refusal {
-        Refusal::Shape => {
-            "are the tracks 1 to 65,535, the sectors 1 to 64 and the spares at most 16?"
-        }
-        Refusal::Room => {
-            "do firmware tracks and spares leave a track (their sum is below the tracks)?"
-        }
-        Refusal::Order => {
-            "is the list of spared tracks strictly rising, each from the first track behind the firmware to the last?"
-        }
-        Refusal::Many => "are there at most as many spared tracks as spares?",
-        Refusal::Window => {
-            "are offset, length and total at most 16,777,215, and does the window end within what it lies on?"
+impl<Q: fmt::Display> fmt::Display for Failed<Q> {
+    fn fmt<W: fmt::Write>(&self, f: &mut fmt::Formatter<W>) -> fmt::Result {
+        write!(f, "refused, question {}: {}", self.number, self.question)
+    }
+}
+
+impl From<Fault> for Failed<Fault> {
+    fn from(fault: Fault) -> Self {
+        Failed {
+            number: fault.number(),
+            question: fault,
         }
     }
 }
 
-pub(crate) fn image_words(heap: Global, fault: Fault) -> Result<String, AllocError> {
-    let number = fault.number();
-    let question = of_image(fault);
-    format!(in heap; "refused, question {number}: {question}")
+impl From<Refusal> for Failed<Refusal> {
+    fn from(refusal: Refusal) -> Self {
+        Failed {
+            number: refusal.number(),
+            question: refusal,
+        }
+    }
 }
 
-// The placement, or the question that it fails.
-pub(crate) fn placed<T: Drop>(heap: Global, made: T, r: Result<(), Refusal>) -> Result<T, Stop> {
-    match r {
-        Ok(()) => Ok(made),
-        Err(refusal) => {
-            let number = refusal.number();
-            let question = of_placement(refusal);
-            Err(Stop::Said(format!(in heap; "refused, question {number}: {question}")?))
+impl From<PacketFault> for Failed<PacketFault> {
+    fn from(fault: PacketFault) -> Self {
+        Failed {
+            number: fault.number(),
+            question: fault,
+        }
+    }
+}
+
+impl From<BuildRefusal> for Failed<BuildRefusal> {
+    fn from(refusal: BuildRefusal) -> Self {
+        Failed {
+            number: refusal.number(),
+            question: refusal,
         }
     }
 }

@@ -1,54 +1,54 @@
 // The list of a table's rooms, and which of them share an image.
 use crate::columns::{Row, Side, laid_out, title};
-use crate::drive::{Drive, pile_of};
-use crate::files::beside;
-use crate::images::{Asked, Facts, asked_for};
-use crate::stop::Stop;
+use crate::drive::Drive;
+use crate::images::{Asked, Facts, Images, blocks_below, images_of};
+use crate::stop::{Stop, settled};
 use crate::table;
 use crate::table::Entry;
 use crate::words::{runs_words, sum_of};
+use itertools::Itertools;
 use pile::runs::{Run, runs_of, shared_place};
 use std::alloc::{AllocError, Global};
+use std::fmt::Write;
 use volume::Placement;
 
-// What the list needs of a room besides its row: whether all is well with it, its image in the list of images, and its places.
+// The blocks of a room, and the places that they take.
+#[derive(Drop)]
+struct Taken {
+    blocks: u32,
+    places: Vec<Run>,
+}
+
+// A room of the list: what it takes, where it has a drive, and what is said of its image or is wrong with the room.
 #[derive(Drop)]
 struct Shown {
-    good: bool,
-    image: Option<usize>,
-    runs: Vec<Run>,
+    entry: Entry,
+    taken: Option<Taken>,
+    image: Result<String, String>,
 }
 
-fn shown_name(entry: &Entry) -> &str {
-    if entry.name.is_empty() {
-        "-"
-    } else {
-        entry.name.as_str()
+impl Shown {
+    // The places, where all is well with the room.
+    fn sound_places(&self) -> Option<&[Run]> {
+        match (&self.taken, &self.image) {
+            (Some(taken), Ok(_)) => Some(taken.places.as_slice()),
+            _ => None,
+        }
     }
-}
 
-fn refused(
-    heap: Global,
-    entry: &Entry,
-    image: Option<usize>,
-    why: &str,
-) -> Result<(Row, Shown), AllocError> {
-    let line = entry.line;
-    let mut cells = Vec::new(heap);
-    cells.push(String::from_str(heap, shown_name(entry))?)?;
-    let row = Row {
-        cells,
-        tail: format!(in heap; "line {line}: {why}")?,
-    };
-    let runs = Vec::new(heap);
-    Ok((
-        row,
-        Shown {
-            good: false,
-            image,
-            runs,
-        },
-    ))
+    fn row(&self, heap: Global) -> Result<Row, AllocError> {
+        let mut cells = vec![in heap; String::from_str(heap, self.entry.shown_name())?]?;
+        if let Some(Taken { blocks, places }) = &self.taken {
+            cells.push(blocks.to_string(heap)?)?;
+            cells.push(runs_words(heap, places.as_slice())?)?;
+        }
+        let line = self.entry.line;
+        let tail = match &self.image {
+            Ok(words) => words.clone()?,
+            Err(why) => format!(in heap; "line {line}: {why}")?,
+        };
+        Ok(Row { cells, tail })
+    }
 }
 
 fn lost_words(heap: Global, facts: &Facts) -> Result<String, AllocError> {
@@ -58,252 +58,108 @@ fn lost_words(heap: Global, facts: &Facts) -> Result<String, AllocError> {
     }
 }
 
-// What the image column says, and whether all is well with the image below a pile of that total.
-fn image_column(
-    heap: Global,
-    entry: &Entry,
-    asked: Option<&Asked>,
-    total: u32,
-) -> Result<(String, bool), AllocError> {
-    let line = entry.line;
-    let Some(asked) = asked else {
-        return Ok((String::from_str(heap, "no image")?, true));
+// What is said of the image below a pile of that total, or what is wrong with it.
+fn image_words(heap: Global, asked: Option<&Asked>, total: u32) -> Result<String, Stop> {
+    let Some(Asked { name, facts }) = asked else {
+        return Ok(String::from_str(heap, "no image")?);
     };
-    let facts = match &asked.facts {
-        Ok(facts) => facts,
-        Err(why) => return Ok((format!(in heap; "line {line}: {why}")?, false)),
-    };
-    let name = asked.name.as_str();
+    let facts = facts.as_ref().map_err(|why| Stop::said(why.clone()))?;
     let count = facts.head.count;
     let lost = lost_words(heap, facts)?;
     if total <= count {
-        return Ok((
-            format!(in heap; "{name}: {count} blocks, {lost}, fits")?,
-            true,
-        ));
+        return Ok(format!(in heap; "{name}: {count} blocks, {lost}, fits")?);
     }
-    let words = format!(in heap;
-        "line {line}: {name}: {count} blocks, {lost}, does not fit: {total} are needed"
-    )?;
-    Ok((words, false))
+    Err(Stop::said(format!(in heap;
+        "{name}: {count} blocks, {lost}, does not fit: {total} are needed"
+    )))
 }
 
-fn fault_of(asked: Option<&Asked>) -> Option<&str> {
-    match &asked?.facts {
-        Ok(_) => None,
-        Err(why) => Some(why.as_str()),
-    }
+fn asked_by<'a>(images: &'a Images, entry: &Entry) -> Option<&'a Asked> {
+    images.get(&entry.image.as_ref()?.path)
 }
 
-fn count_of(asked: Option<&Asked>) -> u32 {
-    let Some(asked) = asked else {
-        return 0;
+// The drive of a room and how many blocks lie below it, or why the room is refused.
+fn drive_of<'a>(entry: &'a Entry, asked: Option<&'a Asked>) -> Result<(&'a Drive, u32), &'a str> {
+    let drive = entry.drive.as_ref().map_err(|why| why.as_str())?;
+    let count = blocks_below(drive, asked.map(|asked| &asked.facts))?;
+    Ok((drive, count))
+}
+
+fn shown_of(heap: Global, entry: Entry, asked: Option<&Asked>) -> Result<Shown, Stop> {
+    let (taken, image) = match drive_of(&entry, asked) {
+        Err(why) => (None, Err(String::from_str(heap, why)?)),
+        Ok((drive, count)) => {
+            let pile = drive.pile(heap, count)?;
+            let blocks = pile.count();
+            let places = runs_of(heap, &pile)?;
+            let image = settled(image_words(heap, asked, pile.total()))?;
+            (Some(Taken { blocks, places }), image)
+        }
     };
-    match &asked.facts {
-        Ok(facts) => facts.head.count,
-        Err(_) => 0,
-    }
+    Ok(Shown {
+        entry,
+        taken,
+        image,
+    })
 }
 
-fn room_row(
-    heap: Global,
-    name: &str,
-    blocks: u32,
-    runs: &[Run],
-    tail: String,
-) -> Result<Row, Stop> {
-    let mut cells = Vec::new(heap);
-    cells.push(String::from_str(heap, name)?)?;
-    cells.push(blocks.to_string(heap)?)?;
-    cells.push(runs_words(heap, runs)?)?;
-    Ok(Row { cells, tail })
+// A place that two rooms share, with both of which all is well.
+fn common(a: &Shown, b: &Shown) -> Option<u32> {
+    shared_place(a.sound_places()?, b.sound_places()?)
 }
 
-fn shown_drive(
-    heap: Global,
-    entry: &Entry,
-    drive: &Drive,
-    image: Option<usize>,
-    asked: Option<&Asked>,
-) -> Result<(Row, Shown), Stop> {
-    if drive.is_whole() {
-        if let Some(why) = fault_of(asked) {
-            return Ok(refused(heap, entry, image, why)?);
-        }
-    }
-    let pile = pile_of(heap, drive, count_of(asked))?;
-    let runs = runs_of(heap, &pile)?;
-    let (tail, good) = image_column(heap, entry, asked, pile.total())?;
-    let row = room_row(
-        heap,
-        entry.name.as_str(),
-        pile.count(),
-        runs.as_slice(),
-        tail,
-    )?;
-    Ok((row, Shown { good, image, runs }))
-}
-
-fn asked_at(images: &[Asked], image: Option<usize>) -> Option<&Asked> {
-    match image {
-        Some(i) => images.get(i),
-        None => None,
-    }
-}
-
-fn shown_entry(
-    rt: &HostRuntime,
-    table: &str,
-    entry: &Entry,
-    images: &mut Vec<Asked>,
-) -> Result<(Row, Shown), Stop> {
-    let heap = rt.alloc();
-    let name = entry.image.as_str();
-    let image = if name.is_empty() {
-        None
-    } else {
-        let path = beside(heap, table, name)?;
-        Some(asked_for(rt, images, name, path.as_str())?)
-    };
-    match &entry.drive {
-        Err(why) => Ok(refused(heap, entry, image, why.as_str())?),
-        Ok(drive) => shown_drive(
-            heap,
-            entry,
-            drive,
-            image,
-            asked_at(images.as_slice(), image),
-        ),
-    }
-}
-
-// The rooms, by their index, that name the image.
-fn sharers(heap: Global, shown: &[Shown], image: usize) -> Result<Vec<usize>, AllocError> {
-    let mut out = Vec::new(heap);
-    for (i, room) in shown.iter().enumerate() {
-        if room.image == Some(image) {
-            out.push(i)?;
-        }
-    }
-    Ok(out)
-}
-
-fn name_at(entries: &[Entry], i: usize) -> &str {
-    match entries.get(i) {
-        Some(entry) => shown_name(entry),
-        None => "-",
-    }
-}
-
-fn add_names(out: &mut String, entries: &[Entry], sharers: &[usize]) -> Result<(), AllocError> {
-    for (k, i) in sharers.iter().enumerate() {
-        if k > 0 {
-            out.push_str(", ")?;
-        }
-        out.push_str(name_at(entries, *i))?;
-    }
-    out.push('\n')
-}
-
-// A place that two good rooms share.
-fn common(shown: &[Shown], i: usize, j: usize) -> Option<u32> {
-    match (shown.get(i), shown.get(j)) {
-        (Some(a), Some(b)) => {
-            if a.good && b.good {
-                shared_place(a.runs.as_slice(), b.runs.as_slice())
-            } else {
-                None
-            }
-        }
-        _ => None,
-    }
-}
-
-// A line for each room behind room i, of those that share the image, that overlaps with it.
-fn add_overlaps(
-    heap: Global,
-    out: &mut String,
-    entries: &[Entry],
-    shown: &[Shown],
-    i: usize,
-    sharers: &[usize],
-) -> Result<(), AllocError> {
-    for j in sharers {
-        if *j <= i {
-            continue;
-        }
-        if let Some(place) = common(shown, i, *j) {
-            let a = name_at(entries, i);
-            let b = name_at(entries, *j);
-            let line = format!(in heap; "  {a} and {b} overlap, as at place {place}\n")?;
-            out.push_str(line.as_str())?;
-        }
-    }
-    Ok(())
+fn names_of(heap: Global, rooms: &[&Shown]) -> Result<String, AllocError> {
+    rooms
+        .iter()
+        .map(|room| room.entry.shown_name())
+        .join(heap, ", ")
 }
 
 // Which rooms share the image, and which of them overlap in it.
 fn add_sharing(
     heap: Global,
     out: &mut String,
-    entries: &[Entry],
-    shown: &[Shown],
-    image: (usize, &str),
+    image: &Asked,
+    sharers: &[&Shown],
 ) -> Result<(), AllocError> {
-    let (k, name) = image;
-    let sharers = sharers(heap, shown, k)?;
-    if sharers.len() < 2 {
-        return Ok(());
-    }
-    let line = format!(in heap; "{name} is shared by ")?;
-    out.push_str(line.as_str())?;
-    add_names(out, entries, sharers.as_slice())?;
-    for i in sharers.iter() {
-        add_overlaps(heap, out, entries, shown, *i, sharers.as_slice())?;
+    let image = image.name.as_str();
+    let names = names_of(heap, sharers)?;
+    writeln!(out, "{image} is shared by {names}")?;
+    for pair in sharers.iter().tuple_combinations::<(_, _), _>(heap)? {
+        let (a, b) = pair?;
+        if let Some(place) = common(a, b) {
+            let a = a.entry.shown_name();
+            let b = b.entry.shown_name();
+            writeln!(out, "  {a} and {b} overlap, as at place {place}")?;
+        }
     }
     Ok(())
 }
 
-fn sharing(
-    heap: Global,
-    entries: &[Entry],
-    shown: &[Shown],
-    images: &[Asked],
-) -> Result<String, AllocError> {
+fn sharing(heap: Global, rooms: &[Shown], images: &Images) -> Result<String, AllocError> {
     let mut out = String::new(heap);
-    for (k, asked) in images.iter().enumerate() {
-        add_sharing(heap, &mut out, entries, shown, (k, asked.name.as_str()))?;
+    for (path, image) in images.iter() {
+        let sharers: Vec<&Shown> = rooms
+            .iter()
+            .filter(|room| room.entry.is_on(path))
+            .collect(heap)?;
+        if sharers.len() > 1 {
+            add_sharing(heap, &mut out, image, sharers.as_slice())?;
+        }
     }
     Ok(out)
 }
 
-fn bad_count(shown: &[Shown]) -> usize {
-    let mut n = 0usize;
-    for room in shown {
-        if !room.good {
-            n = n.saturating_add(1);
-        }
+fn list(heap: Global, rooms: &[Shown]) -> Result<String, AllocError> {
+    let mut rows = vec![in heap; title(heap, &["room", "blocks", "places"], "image")?]?;
+    for room in rooms {
+        rows.push(room.row(heap)?)?;
     }
-    n
-}
-
-// The rows of the list and what else it needs of each room; the images join the list of images.
-fn shown_rooms(
-    rt: &HostRuntime,
-    table: &str,
-    entries: &[Entry],
-    images: &mut Vec<Asked>,
-) -> Result<(Vec<Row>, Vec<Shown>), Stop> {
-    let heap = rt.alloc();
-    let mut rows = Vec::new(heap);
-    let mut shown = Vec::new(heap);
-    rows.push(title(heap, &["room", "blocks", "places"], "image")?)?;
-    for entry in entries {
-        let (row, room) = shown_entry(rt, table, entry, images)?;
-        rows.push(row)?;
-        shown.push(room)?;
-    }
-    Ok((rows, shown))
+    laid_out(
+        heap,
+        rows.as_slice(),
+        &[Side::Left, Side::Right, Side::Left],
+    )
 }
 
 pub(crate) fn rooms(rt: &HostRuntime, table: &str) -> Result<(), Stop> {
@@ -313,19 +169,17 @@ pub(crate) fn rooms(rt: &HostRuntime, table: &str) -> Result<(), Stop> {
         rt.println("no rooms")?;
         return Ok(());
     }
-    let mut images = Vec::new(heap);
-    let (rows, shown) = shown_rooms(rt, table, entries.as_slice(), &mut images)?;
-    let sides = [Side::Left, Side::Right, Side::Left];
-    rt.print(laid_out(heap, rows.as_slice(), &sides)?)?;
-    rt.print(sharing(
-        heap,
-        entries.as_slice(),
-        shown.as_slice(),
-        images.as_slice(),
-    )?)?;
-    let all = entries.len();
-    match bad_count(shown.as_slice()) {
+    let images = images_of(rt, table, entries.as_slice())?;
+    let mut rooms = Vec::new(heap);
+    for entry in entries {
+        let asked = asked_by(&images, &entry);
+        rooms.push(shown_of(heap, entry, asked)?)?;
+    }
+    rt.print(list(heap, rooms.as_slice())?)?;
+    rt.print(sharing(heap, rooms.as_slice(), &images)?)?;
+    let all = rooms.len();
+    match rooms.iter().filter(|room| room.image.is_err()).count() {
         0 => Ok(()),
-        bad => Err(Stop::Said(format!(in heap; "{table}: faults in {bad} of {all} rooms")?)),
+        bad => Err(Stop::said(format!(in heap; "{table}: faults in {bad} of {all} rooms"))),
     }
 }

@@ -1,11 +1,9 @@
 // Scenarios: a volume, placements on it, and packets that are served one after the other.
-use crate::files::{beside, bytes_of};
-use crate::help::wrong_words;
-use crate::hex::{add_bytes, hex_of};
+use crate::digits::bytes_from;
+use crate::files::{beside, bytes_of, input_stop};
 use crate::pipes::print_tables;
 use crate::stand_in::{Laid, StandIn};
 use crate::stop::{Stop, settled};
-use crate::table::field;
 use controller::serve::ServeRefusal;
 use pile::Pile;
 use pile::layer::Layer;
@@ -22,25 +20,39 @@ use std::mem;
 // The longest reply buffer that a packet may ask for.
 const MOST_ROOM: u32 = 1_048_576;
 
-// What was laid since the last volume line stands in `laid` until the first packet.
+// How far a scenario has come since its last volume line: what is laid is served from the first packet on.
+#[derive(Drop)]
+enum Stage {
+    Empty,
+    Laid(Laid),
+    Serving(StandIn),
+}
+
+// What becomes of a packet: its answer is shown, it is in the file before that, or neither.
+#[derive(Clone, Copy, PartialEq, Eq)]
+pub(crate) enum Manner {
+    Shown,
+    Saved,
+    Silent,
+}
+
+// A scenario without a name, or with an empty one, is read from standard input.
+#[derive(Drop)]
 struct Play<'a> {
-    // empty for standard input
-    name: &'a str,
-    saves: bool,
-    shows: bool,
-    laid: Option<Laid>,
-    stand_in: Option<StandIn>,
+    name: Option<&'a str>,
+    manner: Manner,
+    stage: Stage,
 }
 
-fn end(stand_in: Option<StandIn>) {
-    match stand_in {
-        Some(stand_in) => stand_in.end(),
-        None => {}
-    }
+fn said(heap: Global, words: &str) -> Stop {
+    Stop::said(String::from_str(heap, words))
 }
 
-fn said(heap: Global, words: &str) -> Result<Stop, AllocError> {
-    Ok(Stop::Said(String::from_str(heap, words)?))
+fn unknown(heap: Global) -> Stop {
+    said(
+        heap,
+        "this is no line of a scenario (volume, spared, window, packet); try 'corvus help'",
+    )
 }
 
 // A refused placement stays fresh.
@@ -53,9 +65,7 @@ fn note_refusal(rt: &HostRuntime, r: Result<(), Refusal>) {
 
 fn tracks_layer(rt: &HostRuntime, shape: Shape, list: &str) -> Result<Layer, Stop> {
     let heap = rt.alloc();
-    let Some(spared) = numbers(heap, list)? else {
-        return Err(unknown(heap)?);
-    };
+    let spared = numbers(heap, list)?.ok_or_else(|| unknown(heap))?;
     let mut tracks = SparedTracks::fresh(heap);
     note_refusal(rt, tracks.set(shape, spared));
     Ok(Layer::Tracks(tracks))
@@ -67,29 +77,11 @@ fn window_layer(rt: &HostRuntime, offset: u32, count: u32, total: u32) -> Layer 
     Layer::Window(window)
 }
 
-fn unknown(heap: Global) -> Result<Stop, AllocError> {
-    said(
-        heap,
-        "this is no line of a scenario (volume, spared, window, packet); try 'corvus help'",
-    )
-}
-
-// Stops where a byte behind the reply is no longer what the buffer was filled with.
-fn kept_behind(heap: Global, behind: &[u8]) -> Result<(), Stop> {
-    for b in behind {
-        if *b != 0xEE {
-            return Err(said(heap, "a byte behind the reply has changed")?);
-        }
-    }
-    Ok(())
-}
-
-impl<'a> Play<'a> {
+impl Play<'_> {
     fn start(&mut self, rt: &HostRuntime, kind: Kind, path: &str) -> Result<(), Stop> {
-        let path = beside(rt.alloc(), self.name, path)?;
+        let path = beside(rt.alloc(), self.name.unwrap_or(""), path)?;
         let bytes = bytes_of(rt, path.as_str())?;
-        end(self.stand_in.take());
-        self.laid = Some(Laid {
+        self.stage = Stage::Laid(Laid {
             path,
             kind,
             bytes,
@@ -99,11 +91,12 @@ impl<'a> Play<'a> {
     }
 
     fn lay(&mut self, heap: Global, layer: Layer) -> Result<(), Stop> {
-        let Some(laid) = &mut self.laid else {
-            return Err(match &self.stand_in {
-                Some(_) => said(heap, "a placement has to stand above the first packet")?,
-                None => said(heap, "a placement needs a volume line above it")?,
-            });
+        let laid = match &mut self.stage {
+            Stage::Laid(laid) => laid,
+            Stage::Serving(_) => {
+                return Err(said(heap, "a placement has to stand above the first packet"));
+            }
+            Stage::Empty => return Err(said(heap, "a placement needs a volume line above it")),
         };
         match &mut laid.pile {
             Some(pile) => pile.put_on(layer)?,
@@ -114,13 +107,16 @@ impl<'a> Play<'a> {
 
     // The stand-in, which the first packet sets up.
     fn serving(&mut self, heap: Global) -> Result<&mut StandIn, Stop> {
-        if let Some(laid) = self.laid.take() {
-            let made = StandIn::new(laid, self.saves);
-            end(mem::replace(&mut self.stand_in, Some(made)));
-        }
-        match &mut self.stand_in {
-            Some(stand_in) => Ok(stand_in),
-            None => Err(said(heap, "a packet needs a volume line above it")?),
+        self.stage = match mem::replace(&mut self.stage, Stage::Empty) {
+            Stage::Laid(laid) => Stage::Serving(match self.manner {
+                Manner::Saved => StandIn::saving(laid),
+                Manner::Shown | Manner::Silent => StandIn::new(laid),
+            }),
+            stage => stage,
+        };
+        match &mut self.stage {
+            Stage::Serving(stand_in) => Ok(stand_in),
+            _ => Err(said(heap, "a packet needs a volume line above it")),
         }
     }
 
@@ -130,12 +126,12 @@ impl<'a> Play<'a> {
         answer: Result<usize, ServeRefusal>,
         reply: &[u8],
     ) -> Result<(), Stop> {
-        if !self.shows {
+        if self.manner == Manner::Silent {
             return Ok(());
         }
         match answer {
             Ok(_) => {
-                let hex = hex_of(rt.alloc(), reply)?;
+                let hex = hex::encode(rt.alloc(), reply)?;
                 println!(rt; "reply {hex}")?;
             }
             Err(refusal) => {
@@ -148,46 +144,29 @@ impl<'a> Play<'a> {
 
     fn packet(&mut self, rt: &HostRuntime, room: u32, hex: &str) -> Result<(), Stop> {
         let heap = rt.alloc();
-        let mut packet = Vec::new(heap);
-        add_bytes(heap, &mut packet, hex)?;
+        let packet = bytes_from(heap, hex)?;
         if room > MOST_ROOM {
-            return Err(said(heap, "a reply buffer has at most 1048576 bytes")?);
+            return Err(said(heap, "a reply buffer has at most 1048576 bytes"));
         }
         let mut buffer = vec![in heap; 0xEEu8; room as usize]?;
         let stand_in = self.serving(heap)?;
         let answer = stand_in.answer(rt, packet.as_slice(), buffer.as_mut_slice())?;
-        let length = match answer {
-            Ok(length) => length,
-            Err(_) => 0,
-        };
+        let length = answer.unwrap_or(0);
         let Some((reply, behind)) = buffer.as_slice().split_at_checked(length) else {
-            return Err(said(heap, "the reply is longer than its buffer")?);
+            return Err(said(heap, "the reply is longer than its buffer"));
         };
-        kept_behind(heap, behind)?;
+        if behind.iter().any(|&b| b != 0xEE) {
+            return Err(said(heap, "a byte behind the reply has changed"));
+        }
         self.show(rt, answer, reply)
     }
 
-    fn obey(&mut self, rt: &HostRuntime, text: &str) -> Result<(), Stop> {
+    fn obey(&mut self, rt: &HostRuntime, line: Line<'_>) -> Result<(), Stop> {
         let heap = rt.alloc();
-        let Some(line) = line_of(text) else {
-            return Err(unknown(heap)?);
-        };
         match line {
             Line::Blank => Ok(()),
             Line::Volume { kind, path } => self.start(rt, kind, path),
-            Line::Spared {
-                tracks,
-                sectors,
-                firmware,
-                spares,
-                list,
-            } => {
-                let shape = Shape {
-                    tracks,
-                    sectors,
-                    firmware,
-                    spares,
-                };
+            Line::Spared { shape, list } => {
                 let layer = tracks_layer(rt, shape, list)?;
                 self.lay(heap, layer)
             }
@@ -201,99 +180,67 @@ impl<'a> Play<'a> {
     }
 
     fn obey_bytes(&mut self, rt: &HostRuntime, bytes: &[u8]) -> Result<(), Stop> {
-        match std::str::from_utf8(bytes) {
-            Ok(text) => self.obey(rt, text),
-            Err(_) => Err(said(rt.alloc(), "the line is not UTF-8 text")?),
-        }
+        let heap = rt.alloc();
+        let text = std::str::from_utf8(bytes).map_err(|_| said(
+            heap,
+            "the line is not UTF-8 text",
+        ))?;
+        self.obey(rt, line_of(text).ok_or_else(|| unknown(heap))?)
     }
 
     // The end of a line that stops the play.
-    fn stopped(&self, heap: Global, line: u64, why: &str) -> Result<Stop, AllocError> {
-        let name = if self.name.is_empty() {
-            "standard input"
-        } else {
-            self.name
-        };
-        Ok(Stop::Said(format!(in heap; "{name}, line {line}: {why}")?))
+    fn stopped(&self, heap: Global, line: usize, why: &str) -> Stop {
+        let name = self.name.unwrap_or("standard input");
+        Stop::said(format!(in heap; "{name}, line {line}: {why}"))
     }
 
-    fn obey_all<R: BufRead>(&mut self, rt: &HostRuntime, reader: &mut R) -> Result<(), Stop> {
+    fn obey_all<R: BufRead + Drop>(&mut self, rt: &HostRuntime, reader: R) -> Result<(), Stop> {
         let heap = rt.alloc();
-        for i in 0..u64::MAX {
-            let mut bytes = Vec::new(heap);
-            match reader.read_until(b'\n', &mut bytes) {
-                Ok(0) => return Ok(()),
-                Ok(_) => {}
-                Err(e) => return Err(Stop::Said(format!(in heap; "standard input: {e}")?)),
-            }
-            if let Err(why) = settled(self.obey_bytes(rt, bytes.as_slice()))? {
-                return Err(self.stopped(heap, i.saturating_add(1), why.as_str())?);
+        for (i, line) in reader.split(heap, b'\n').enumerate() {
+            let line = line.map_err(|e| input_stop(heap, e))?;
+            if let Err(why) = settled(self.obey_bytes(rt, line.as_slice()))? {
+                return Err(self.stopped(heap, i.saturating_add(1), why.as_str()));
             }
         }
         Ok(())
     }
 
     fn play(&mut self, rt: &HostRuntime) -> Result<(), Stop> {
-        if self.name.is_empty() {
-            return match BufReader::new(rt.alloc(), rt.stdin()) {
-                Ok(mut input) => self.obey_all(rt, &mut input),
-                Err(_) => Err(Stop::Memory),
-            };
+        match self.name {
+            Some(name) => {
+                let bytes = bytes_of(rt, name)?;
+                self.obey_all(rt, bytes.as_slice())
+            }
+            None => {
+                let input = BufReader::new(rt.alloc(), rt.stdin()).map_err(|_| Stop::Memory(
+                    AllocError,
+                ))?;
+                self.obey_all(rt, input)
+            }
         }
-        let bytes = bytes_of(rt, self.name)?;
-        let mut text = bytes.as_slice();
-        self.obey_all(rt, &mut text)
-    }
-
-    fn end(self) {
-        let Play {
-            name: _,
-            saves: _,
-            shows: _,
-            laid: _,
-            stand_in,
-        } = self;
-        end(stand_in);
     }
 }
 
-fn play_of(name: &str, saves: bool, shows: bool) -> Play<'_> {
-    Play {
-        name,
-        saves,
-        shows,
-        laid: None,
-        stand_in: None,
-    }
-}
-
-pub(crate) fn run(rt: &HostRuntime, words: &[String]) -> Result<(), Stop> {
-    let first = field(words, 1);
-    let second = field(words, 2);
-    let saves = first == "--save";
-    let name = if saves { second } else { first };
-    if !saves && !second.is_empty() {
-        return Err(wrong_words(rt.alloc(), "run")?);
-    }
-    let mut play = play_of(name, saves, true);
-    let r = play.play(rt);
-    play.end();
-    r
+pub(crate) fn run(rt: &HostRuntime, name: Option<&str>, manner: Manner) -> Result<(), Stop> {
+    let mut play = Play {
+        name: name.filter(|name| !name.is_empty()),
+        manner,
+        stage: Stage::Empty,
+    };
+    play.play(rt)
 }
 
 // Plays the scenario in silence; then the tables as it left them.
-fn show_after(rt: &HostRuntime, play: &mut Play<'_>) -> Result<(), Stop> {
-    play.play(rt)?;
-    let stand_in = match play.serving(rt.alloc()) {
-        Ok(stand_in) => stand_in,
-        Err(_) => return Err(said(rt.alloc(), "the scenario has no volume")?),
-    };
-    print_tables(rt, stand_in.controller())
-}
-
 pub(crate) fn tables(rt: &HostRuntime, name: &str) -> Result<(), Stop> {
-    let mut play = play_of(name, false, false);
-    let r = show_after(rt, &mut play);
-    play.end();
-    r
+    let heap = rt.alloc();
+    let mut play = Play {
+        name: Some(name).filter(|name| !name.is_empty()),
+        manner: Manner::Silent,
+        stage: Stage::Empty,
+    };
+    play.play(rt)?;
+    let stand_in = play
+        .serving(heap)
+        .map_err(|_| said(heap, "the scenario has no volume"))?;
+    print_tables(rt, stand_in.controller())
 }

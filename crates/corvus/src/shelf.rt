@@ -1,9 +1,9 @@
 // The commands on one image: check, new, get and put.
-use crate::files::{bytes_of, io_stop, put_back};
+use crate::files::{Target, bytes_of, input, io_stop, put_back};
 use crate::images::{Facts, facts_of, header_of};
-use crate::questions::image_words;
+use crate::questions::Failed;
 use crate::stop::Stop;
-use crate::words::{number_word, stretch_words, sum_of};
+use crate::words::{add_lines, number_word, sum_of};
 use image::fault::Fault;
 use image::header::Header;
 use image::make::new_header;
@@ -14,19 +14,16 @@ use std::fs::File;
 use std::io::{Read, Write};
 use std::{fs, io};
 use volume::Volume;
-use volume::answers::{ReadAnswer, WriteAnswer};
+use volume::answers::{ReadRefusal, ResultByte};
 
+// Not as a map's, which have other words, and end after twenty.
 fn lost_lines(heap: Global, facts: &Facts) -> Result<String, AllocError> {
-    let sum = sum_of(facts.lost.as_slice());
-    if sum == 0 {
+    if facts.lost.is_empty() {
         return String::from_str(heap, "lost    none\n");
     }
+    let sum = sum_of(facts.lost.as_slice());
     let mut out = format!(in heap; "lost    {sum}\n")?;
-    for s in facts.lost.iter() {
-        out.push_str("        ")?;
-        out.push_str(stretch_words(heap, *s)?.as_str())?;
-        out.push('\n')?;
-    }
+    add_lines(&mut out, "        ", facts.lost.as_slice())?;
     Ok(out)
 }
 
@@ -42,21 +39,11 @@ pub(crate) fn check(rt: &HostRuntime, path: &str) -> Result<(), Stop> {
     Ok(())
 }
 
-// Writes the piece that many times.
-fn write_pieces(file: &mut File, n: u32, piece: &[u8]) -> io::Result<()> {
-    for _ in 0..n {
-        file.write_all(piece)?;
-    }
-    Ok(())
-}
-
 // The header, and 513 zero bytes for each block behind it.
 fn write_image(file: &mut File, header: &[u8; 16], count: u32) -> io::Result<()> {
-    let block = [0u8; 513];
-    let many = [0u8; 32832];
     file.write_all(header)?;
-    write_pieces(file, count / 64, &many)?;
-    write_pieces(file, count % 64, &block)?;
+    let length = u64::from(count).saturating_mul(513);
+    io::copy(&mut io::repeat(0).take(length), file)?;
     file.sync_all()
 }
 
@@ -64,45 +51,32 @@ pub(crate) fn new(rt: &HostRuntime, path: &str, word: &str) -> Result<(), Stop> 
     let heap = rt.alloc();
     let count = number_word(heap, "blocks", word)?;
     let Some(header) = new_header(count) else {
-        let why = image_words(heap, Fault::Count)?;
-        return Err(Stop::Said(format!(in heap; "{path}: {why} (no file is made)")?));
+        let failed = Failed::from(Fault::Count);
+        return Err(Stop::said(format!(in heap; "{path}: {failed} (no file is made)")));
     };
-    let mut file = match File::create_new(rt, path) {
-        Ok(file) => file,
-        Err(e) => return Err(io_stop(heap, path, e)?),
-    };
-    if let Err(e) = write_image(&mut file, &header, count) {
-        let gone = fs::remove_file(rt, path).is_ok();
-        let rest = if gone {
-            "the part file is removed"
-        } else {
-            "a part file is left"
+    let mut file = File::create_new(rt, path).map_err(|e| io_stop(heap, path, e))?;
+    write_image(&mut file, &header, count).map_err(|e| {
+        let rest = match fs::remove_file(rt, path) {
+            Ok(()) => "the part file is removed",
+            Err(_) => "a part file is left",
         };
-        return Err(Stop::Said(format!(in heap; "{path}: writing failed ({e}); {rest}")?));
-    }
-    Ok(())
+        Stop::said(format!(in heap; "{path}: writing failed ({e}); {rest}"))
+    })
 }
 
-// Why block n of an image of that many blocks is refused.
-fn refused_block(
-    heap: Global,
-    path: &str,
-    word: &str,
-    count: u32,
-    lost: bool,
-) -> Result<Stop, AllocError> {
-    let text = if lost {
-        let code = ReadAnswer::Lost.byte();
-        format!(in heap; "{path}: block {word} is lost ({code:02X}h)")?
-    } else {
-        let code = ReadAnswer::Beyond.byte();
-        format!(in heap;
+// Path and word as the command line has them: the second word of `new` is no block, so no struct serves all.
+// Why the block of that word is refused, in an image of that many blocks.
+fn refused_block(heap: Global, path: &str, word: &str, count: u32, refusal: ReadRefusal) -> Stop {
+    let code = Err(refusal).byte();
+    Stop::said(match refusal {
+        ReadRefusal::Lost => format!(in heap; "{path}: block {word} is lost ({code:02X}h)"),
+        ReadRefusal::Beyond => format!(in heap;
             "{path}: block {word} is beyond ({code:02X}h): the image has {count} blocks"
-        )?
-    };
-    Ok(Stop::Said(text))
+        ),
+    })
 }
 
+// As `put`, it begins with the image's bytes and header, which both go on using, so that no function can hand them over in one piece.
 pub(crate) fn get(rt: &HostRuntime, path: &str, word: &str) -> Result<(), Stop> {
     let heap = rt.alloc();
     let n = number_word(heap, "block", word)?;
@@ -110,11 +84,9 @@ pub(crate) fn get(rt: &HostRuntime, path: &str, word: &str) -> Result<(), Stop> 
     let head = header_of(heap, path, bytes.as_slice())?;
     let image = ShelfImage::new(bytes.as_slice());
     let mut buffer = [0u8; 512];
-    match image.read(n, &mut buffer) {
-        ReadAnswer::Done => {}
-        ReadAnswer::Beyond => return Err(refused_block(heap, path, word, head.count, false)?),
-        ReadAnswer::Lost => return Err(refused_block(heap, path, word, head.count, true)?),
-    }
+    image.read(n, &mut buffer).map_err(|refusal| refused_block(
+        heap, path, word, head.count, refusal,
+    ))?;
     let mut out = rt.stdout();
     out.write_all(&buffer)?;
     out.flush()?;
@@ -124,37 +96,27 @@ pub(crate) fn get(rt: &HostRuntime, path: &str, word: &str) -> Result<(), Stop> 
 // The 512 bytes of standard input.
 fn input_block(rt: &HostRuntime) -> Result<[u8; 512], Stop> {
     let heap = rt.alloc();
-    let mut bytes = Vec::new(heap);
-    if let Err(e) = rt.stdin().take(513).read_to_end(&mut bytes) {
-        return Err(Stop::Said(format!(in heap; "standard input: {e}")?));
-    }
-    match bytes.as_slice().first_chunk::<512>() {
-        Some(block) => {
-            if bytes.len() == 512 {
-                return Ok(*block);
-            }
-            Err(Stop::Said(String::from_str(
-                heap,
-                "standard input has more than 512 bytes; a block is exactly 512 (nothing is written)",
-            )?))
-        }
-        None => {
-            let n = bytes.len();
-            Err(Stop::Said(format!(in heap;
+    let bytes = input(rt, 513)?;
+    <[u8; 512]>::try_from(bytes.as_slice()).map_err(|_| {
+        Stop::said(match bytes.len() {
+            n @ 0..512 => format!(in heap;
                 "standard input has {n} bytes; a block is exactly 512 (nothing is written)"
-            )?))
-        }
-    }
+            ),
+            _ => format!(in heap;
+                "standard input has more than 512 bytes; a block is exactly 512 (nothing is written)"
+            ),
+        })
+    })
 }
 
-// Where block n's bytes go in the file, and its map byte where that is not 0 yet.
-fn aims(head: Header, bytes: &[u8], n: u32) -> Option<(u64, Option<u64>)> {
+// Where block n goes in the file: with its map byte, where that is not 0 yet.
+fn target_of(head: Header, bytes: &[u8], n: u32) -> Option<Target> {
     let block = head.block_byte(n)?;
     let map = head.map_byte(n)?;
-    match bytes.get(map as usize).copied() {
-        Some(0) => Some((block, None)),
-        _ => Some((block, Some(map))),
-    }
+    Some(Target {
+        block,
+        map: (bytes.get(map as usize) != Some(&0)).then_some(map),
+    })
 }
 
 pub(crate) fn put(rt: &HostRuntime, path: &str, word: &str) -> Result<(), Stop> {
@@ -162,13 +124,10 @@ pub(crate) fn put(rt: &HostRuntime, path: &str, word: &str) -> Result<(), Stop> 
     let n = number_word(heap, "block", word)?;
     let bytes = bytes_of(rt, path)?;
     let head = header_of(heap, path, bytes.as_slice())?;
-    let Some((at, map)) = aims(head, bytes.as_slice(), n) else {
-        return Err(refused_block(heap, path, word, head.count, false)?);
-    };
+    let beyond = || refused_block(heap, path, word, head.count, ReadRefusal::Beyond);
+    let target = target_of(head, bytes.as_slice(), n).ok_or_else(beyond)?;
     let block = input_block(rt)?;
     let mut image = WorkImage::new(bytes);
-    match image.write(n, &block) {
-        WriteAnswer::Done => put_back(rt, path, (at, &block), map),
-        _ => Err(refused_block(heap, path, word, head.count, false)?),
-    }
+    image.write(n, &block).map_err(|_| beyond())?;
+    put_back(rt, path, target, &block)
 }

@@ -1,54 +1,27 @@
 // Why a command ends early: one line for the person who asked.
-use std::alloc::{AllocError, AllocFailed};
-use std::{fmt, io};
+use crate::words::OneLine;
+use std::alloc::AllocError;
+use std::io;
+use thiserror::Error;
 
-#[derive(Drop)]
+// An error of its own, since anyhow's keeps 120 bytes of a message and a refusal can be longer.
+#[derive(Debug, Drop, Error)]
 pub(crate) enum Stop {
+    #[error("{}", OneLine(.0.as_str()))]
     Said(String),
-    Memory,
-    Output(io::Error),
+    #[error("there is not enough memory")]
+    Memory(#[from(alloc)] AllocError),
+    // What reads and writes files puts the path into words itself: here it is standard output.
+    #[error("standard output: {0}")]
+    Output(#[from] io::Error),
 }
 
-impl From<AllocError> for Stop {
-    fn from(_e: AllocError) -> Stop {
-        Stop::Memory
-    }
-}
-
-impl<T: Drop> From<AllocFailed<T>> for Stop {
-    fn from(_e: AllocFailed<T>) -> Stop {
-        Stop::Memory
-    }
-}
-
-// Text is written to strings only, which fail for want of memory alone.
-impl From<fmt::Error> for Stop {
-    fn from(_e: fmt::Error) -> Stop {
-        Stop::Memory
-    }
-}
-
-// What reads and writes files puts the path into words itself: here it is standard output.
-impl From<io::Error> for Stop {
-    fn from(e: io::Error) -> Stop {
-        Stop::Output(e)
-    }
-}
-
-// The text in one line, whatever a word of the command line or a path has in it.
-fn write_line<W: fmt::Write>(f: &mut fmt::Formatter<W>, text: &str) -> fmt::Result {
-    for c in text.chars() {
-        f.write_char(if c < ' ' { ' ' } else { c })?;
-    }
-    Ok(())
-}
-
-impl fmt::Display for Stop {
-    fn fmt<W: fmt::Write>(&self, f: &mut fmt::Formatter<W>) -> fmt::Result {
-        match self {
-            Stop::Said(text) => write_line(f, text.as_str()),
-            Stop::Memory => write!(f, "there is not enough memory"),
-            Stop::Output(e) => write!(f, "standard output: {e}"),
+impl Stop {
+    // A refusal in these words, or the want of memory for them. Named, since by a `From` any text would become a refusal unseen.
+    pub(crate) fn said(words: Result<String, AllocError>) -> Stop {
+        match words {
+            Ok(text) => Stop::Said(text),
+            Err(e) => Stop::Memory(e),
         }
     }
 }

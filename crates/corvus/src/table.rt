@@ -1,254 +1,302 @@
 // The room table: which rooms there are, on which lines, and what stands in their fields.
-use crate::drive::{Drive, drive_of};
+ghost use Rattle.std.specs.Iterator.{at_most};
+ghost use Rattle.corvus.specs.Tables.{most_lines};
+
+use crate::drive::Drive;
 use crate::files::bytes_of;
 use crate::stop::{Stop, settled};
+use crate::words::OneLine;
 use sheet::fault::Fault;
 use sheet::reader::Reader;
 use sheet::reader::records::Record;
 use std::alloc::{AllocError, Global};
+use std::collections::HashMap;
+use std::path::PathBuf;
 
-pub(crate) const HEADER: &str = "room,image,tracks,sectors,firmware,spares,spared,offset,length";
+const HEADER: &str = "room,image,tracks,sectors,firmware,spares,spared,offset,length";
+
+// An image as the table names it, and the path that it is known by: a.img and ./a.img are one.
+#[derive(Drop)]
+pub(crate) struct ImageName {
+    pub(crate) text: String,
+    pub(crate) path: PathBuf,
+}
+
+impl ImageName {
+    fn new(heap: Global, text: String) -> Result<ImageName, AllocError> {
+        let path = PathBuf::from_str(heap, text.as_str().trim_start_matches("./"))?;
+        Ok(ImageName { text, path })
+    }
+}
 
 // A line of the table: a room, or why there is none.
 #[derive(Drop)]
 pub(crate) struct Entry {
     pub(crate) line: usize,
-    pub(crate) name: String,
-    pub(crate) image: String,
+    pub(crate) name: Option<String>,
+    pub(crate) image: Option<ImageName>,
     pub(crate) drive: Result<Drive, String>,
 }
 
-// The text of a field, or none behind the last.
-pub(crate) fn field(texts: &[String], i: usize) -> &str {
-    match texts.get(i) {
-        Some(text) => text.as_str(),
-        None => "",
+impl Entry {
+    // A line without a name is found by an empty one.
+    pub(crate) fn is_named(&self, name: &str) -> bool {
+        self.name.as_deref().unwrap_or("") == name
+    }
+
+    pub(crate) fn is_on(&self, image: &PathBuf) -> bool {
+        self.image.as_ref().is_some_and(|name| name.path == *image)
+    }
+
+    // The name that is shown, or a dash where there is none.
+    pub(crate) fn shown_name(&self) -> &str {
+        self.name.as_deref().unwrap_or("-")
+    }
+}
+
+// The fields of a room, of those that are filled.
+#[derive(Clone, Copy)]
+pub(crate) struct Fields<'a> {
+    pub(crate) image: Option<&'a str>,
+    pub(crate) tracks: Option<&'a str>,
+    pub(crate) sectors: Option<&'a str>,
+    pub(crate) firmware: Option<&'a str>,
+    pub(crate) spares: Option<&'a str>,
+    pub(crate) spared: Option<&'a str>,
+    pub(crate) offset: Option<&'a str>,
+    pub(crate) length: Option<&'a str>,
+}
+
+// The records of a table, up to its end or a fault.
+#[derive(Drop)]
+struct Lines<'a> {
+    heap: Global,
+    reader: Option<Reader<'a>>,
+}
+
+impl Iterator for Lines<'_> {
+    type Item = Result<Record, Fault>;
+
+    ghost remaining = { λ s. at_most (most_lines s.reader) };
+
+    fn next(&mut self) -> Option<Result<Record, Fault>> {
+        let mut reader = self.reader.take()?;
+        match reader.next_record(self.heap).transpose()? {
+            Ok(record) => {
+                self.reader = Some(reader);
+                Some(Ok(record))
+            }
+            Err(fault) => Some(Err(fault)),
+        }
     }
 }
 
 fn is_blank(record: &Record) -> bool {
-    for bytes in record.fields.iter() {
-        if !bytes.as_slice().trim_ascii().is_empty() {
-            return false;
+    record
+        .fields
+        .iter()
+        .all(|bytes| bytes.as_slice().trim_ascii().is_empty())
+}
+
+// A field as one line of text, without the blanks around it: None where it is no text.
+fn text_of(heap: Global, bytes: &[u8]) -> Result<Option<String>, AllocError> {
+    std::str::from_utf8(bytes)
+        .ok()
+        .map(|text| OneLine(text.trim()).to_string(heap))
+        .transpose()
+}
+
+fn texts_of(heap: Global, record: &Record) -> Result<Vec<Option<String>>, AllocError> {
+    record
+        .fields
+        .iter()
+        .map(|bytes| text_of(heap, bytes.as_slice()))
+        .try_collect(heap)
+}
+
+fn filled(text: &Option<String>) -> Option<&str> {
+    text.as_deref().filter(|text| !text.is_empty())
+}
+
+// What is not filled may stand behind the named columns.
+fn is_header(texts: &[Option<String>]) -> bool {
+    let Some((named, more)) = texts.split_at_checked(9) else {
+        return false;
+    };
+    named.iter().map(filled).eq(HEADER.split(',').map(Some))
+        && more.iter().all(|text| filled(text).is_none())
+}
+
+// Why the rest of the table is not read, from a line on. A lack of memory ends the command instead.
+struct Unread {
+    line: usize,
+    fault: Fault,
+}
+
+impl TryFrom<Fault> for Unread {
+    type Error = Stop;
+
+    fn try_from(fault: Fault) -> Result<Unread, Stop> {
+        match fault {
+            Fault::Memory => Err(Stop::Memory(AllocError)),
+            Fault::Unclosed { line } | Fault::Behind { line } => Ok(Unread { line, fault }),
         }
     }
-    true
 }
 
-// The next record that is not blank.
-fn next_filled(heap: Global, reader: &mut Reader) -> Result<Option<Record>, Fault> {
-    for _ in 0..u64::MAX {
-        match reader.next_record(heap)? {
-            None => return Ok(None),
-            Some(record) => {
-                if !is_blank(&record) {
-                    return Ok(Some(record));
-                }
-            }
-        }
-    }
-    Ok(None)
-}
-
-// The field as one line of text, without the blanks around it.
-fn one_line(heap: Global, text: &str) -> Result<String, AllocError> {
-    let mut out = String::new(heap);
-    for c in text.trim().chars() {
-        out.push(if c < ' ' { ' ' } else { c })?;
-    }
-    Ok(out)
-}
-
-// The fields as text. A field that is no text is left empty, and its column is said.
-fn texts_of(heap: Global, record: &Record) -> Result<(Vec<String>, Option<usize>), AllocError> {
-    let mut texts = Vec::new(heap);
-    let mut bad = None;
-    for (i, bytes) in record.fields.iter().enumerate() {
-        match std::str::from_utf8(bytes.as_slice()) {
-            Ok(text) => texts.push(one_line(heap, text)?)?,
-            Err(_) => {
-                bad = Some(i);
-                texts.push(String::new(heap))?;
-            }
-        }
-    }
-    Ok((texts, bad))
-}
-
-fn is_header(texts: &[String]) -> bool {
-    let mut i = 0usize;
-    for name in HEADER.split(',') {
-        if field(texts, i) != name {
-            return false;
-        }
-        i = i.saturating_add(1);
-    }
-    true
-}
-
-fn fault_words(heap: Global, fault: Fault) -> Result<(usize, String), Stop> {
-    match fault {
-        Fault::Memory => Err(Stop::Memory),
-        Fault::Unclosed { line } => Ok((
-            line,
-            String::from_str(
-                heap,
-                "a quoted field is opened here and never closed; the rest of the table is not read",
-            )?,
-        )),
-        Fault::Behind { line } => Ok((
-            line,
-            String::from_str(
-                heap,
-                "something stands between a closing quote and the next comma; the rest of the table is not read",
-            )?,
-        )),
-    }
-}
-
-// Reads past the header, or says what the first line has to be.
-fn pass_header(heap: Global, table: &str, reader: &mut Reader) -> Result<(), Stop> {
-    let line = match next_filled(heap, reader) {
-        Ok(Some(record)) => {
-            let (texts, _) = texts_of(heap, &record)?;
-            if is_header(texts.as_slice()) && extra_column(texts.as_slice()).is_none() {
+// Says what the first line has to be, where it is another.
+fn checked_header(
+    heap: Global,
+    table: &str,
+    first: Option<Result<Record, Fault>>,
+) -> Result<(), Stop> {
+    let line = match first {
+        Some(Ok(record)) => {
+            if is_header(texts_of(heap, &record)?.as_slice()) {
                 return Ok(());
             }
             record.line
         }
-        Ok(None) => 1,
-        Err(fault) => {
-            let (line, why) = fault_words(heap, fault)?;
-            return Err(Stop::Said(format!(in heap; "{table}, line {line}: {why}")?));
+        None => 1,
+        Some(Err(fault)) => {
+            let Unread { line, fault } = Unread::try_from(fault)?;
+            return Err(Stop::said(format!(in heap; "{table}, line {line}: {fault}")));
         }
     };
-    Err(Stop::Said(format!(in heap;
+    Err(Stop::said(format!(in heap;
         "{table}, line {line}: the table has to begin with the line {HEADER}"
-    )?))
+    )))
 }
 
-// The first column behind the last named one in which something stands.
-fn extra_column(texts: &[String]) -> Option<usize> {
-    for (i, text) in texts.iter().enumerate().skip(9) {
-        if !text.is_empty() {
-            return Some(i);
-        }
-    }
-    None
-}
-
-fn checked_fields(heap: Global, texts: &[String], bad: Option<usize>) -> Result<(), Stop> {
-    if let Some(i) = bad {
+// The fields of a named room.
+fn fields_of(heap: Global, texts: &[Option<String>]) -> Result<Fields<'_>, Stop> {
+    if let Some(i) = texts.iter().rposition(|text| text.is_none()) {
         let column = i.saturating_add(1);
-        return Err(Stop::Said(format!(in heap; "field {column} is not UTF-8 text")?));
+        return Err(Stop::said(format!(in heap; "field {column} is not UTF-8 text")));
     }
-    let n = texts.len();
-    if n < 9 {
-        return Err(Stop::Said(format!(in heap; "there are {n} fields; a room has 9")?));
-    }
-    if let Some(i) = extra_column(texts) {
-        let column = i.saturating_add(1);
-        return Err(Stop::Said(format!(in heap;
+    let [
+        name,
+        image,
+        tracks,
+        sectors,
+        firmware,
+        spares,
+        spared,
+        offset,
+        length,
+        more @ ..,
+    ] = texts
+    else {
+        let n = texts.len();
+        return Err(Stop::said(format!(in heap; "there are {n} fields; a room has 9")));
+    };
+    if let Some(i) = more.iter().position(|text| filled(text).is_some()) {
+        let column = i.saturating_add(10);
+        return Err(Stop::said(format!(in heap;
             "something stands in field {column}; a room has 9"
-        )?));
+        )));
     }
-    if field(texts, 0).is_empty() {
-        return Err(Stop::Said(String::from_str(heap, "the room has no name")?));
+    if filled(name).is_none() {
+        return Err(Stop::said(format!(in heap; "the room has no name")));
     }
-    Ok(())
+    Ok(Fields {
+        image: filled(image),
+        tracks: filled(tracks),
+        sectors: filled(sectors),
+        firmware: filled(firmware),
+        spares: filled(spares),
+        spared: filled(spared),
+        offset: filled(offset),
+        length: filled(length),
+    })
 }
 
-fn checked_drive(heap: Global, texts: &[String], bad: Option<usize>) -> Result<Drive, Stop> {
-    checked_fields(heap, texts, bad)?;
-    drive_of(heap, texts)
+// Apart, so that what `?` gives is kept as the room's refusal.
+fn drive_of(heap: Global, texts: &[Option<String>]) -> Result<Drive, Stop> {
+    Drive::new(heap, fields_of(heap, texts)?)
 }
 
-fn entry_of(heap: Global, record: &Record) -> Result<Entry, Stop> {
-    let (texts, bad) = texts_of(heap, record)?;
-    let drive = settled(checked_drive(heap, texts.as_slice(), bad))?;
+// The text where there is one and it is filled.
+fn owned(text: Option<Option<String>>) -> Option<String> {
+    text?.filter(|text| !text.is_empty())
+}
+
+fn entry_of(heap: Global, line: Result<Record, Fault>) -> Result<Entry, Stop> {
+    let record = match line {
+        Ok(record) => record,
+        Err(fault) => {
+            let Unread { line, fault } = Unread::try_from(fault)?;
+            return Ok(Entry {
+                line,
+                name: None,
+                image: None,
+                drive: Err(fault.to_string(heap)?),
+            });
+        }
+    };
+    let texts = texts_of(heap, &record)?;
+    let drive = settled(drive_of(heap, texts.as_slice()))?;
+    let mut texts = texts.into_iter();
+    let name = owned(texts.next());
+    let image = owned(texts.next())
+        .map(|text| ImageName::new(heap, text))
+        .transpose()?;
     Ok(Entry {
         line: record.line,
-        name: String::from_str(heap, field(texts.as_slice(), 0))?,
-        image: String::from_str(heap, field(texts.as_slice(), 1))?,
+        name,
+        image,
         drive,
     })
 }
 
-// The next line of the table, and whether reading goes on behind it.
-fn next_entry(heap: Global, reader: &mut Reader) -> Result<Option<(Entry, bool)>, Stop> {
-    match next_filled(heap, reader) {
-        Ok(None) => Ok(None),
-        Ok(Some(record)) => Ok(Some((entry_of(heap, &record)?, true))),
-        Err(fault) => {
-            let (line, why) = fault_words(heap, fault)?;
-            let entry = Entry {
-                line,
-                name: String::new(heap),
-                image: String::new(heap),
-                drive: Err(why),
-            };
-            Ok(Some((entry, false)))
+type NamedLines = HashMap<String, Vec<usize>>;
+
+// The lines on which each name stands.
+fn named_lines(heap: Global, entries: &[Entry]) -> Result<NamedLines, AllocError> {
+    let mut lines: NamedLines = HashMap::new(heap);
+    for entry in entries {
+        if let Some(name) = &entry.name {
+            lines.entry(name.clone()?)?.or_default().push(entry.line)?;
         }
     }
+    Ok(lines)
 }
 
-// The other line on which the name of entry i stands.
-fn twin(entries: &[Entry], i: usize, name: &str) -> Option<usize> {
-    for (j, other) in entries.iter().enumerate() {
-        if j != i && other.name.as_str() == name {
-            return Some(other.line);
-        }
-    }
-    None
+// The first other line on which the entry's name stands.
+fn twin(entry: &Entry, lines: &NamedLines) -> Option<usize> {
+    lines
+        .get(entry.name.as_deref()?)?
+        .iter()
+        .copied()
+        .find(|&line| line != entry.line)
 }
 
-fn twice_words(heap: Global, name: &str, a: usize, b: usize) -> Result<String, AllocError> {
-    let first = a.min(b);
-    let second = a.max(b);
+fn twice_words(heap: Global, entry: &Entry, twin: usize) -> Result<String, AllocError> {
+    let name = entry.shown_name();
+    let first = entry.line.min(twin);
+    let second = entry.line.max(twin);
     format!(in heap; "the name {name} stands twice, on lines {first} and {second}")
 }
 
-fn twins_of(heap: Global, entries: &[Entry]) -> Result<Vec<Option<usize>>, AllocError> {
-    let mut twins = Vec::new(heap);
-    for (i, entry) in entries.iter().enumerate() {
-        let name = entry.name.as_str();
-        twins.push(if name.is_empty() {
-            None
-        } else {
-            twin(entries, i, name)
-        })?;
-    }
-    Ok(twins)
-}
-
 // Refuses each room whose name stands on another line too.
-fn without_twins(heap: Global, entries: Vec<Entry>) -> Result<Vec<Entry>, Stop> {
-    let twins = twins_of(heap, entries.as_slice())?;
-    let mut out = Vec::new(heap);
-    for (mut entry, twin) in entries.into_iter().zip(twins.into_iter()) {
-        if let Some(line) = twin {
-            entry.drive = Err(twice_words(heap, entry.name.as_str(), entry.line, line)?);
+fn refuse_twins(heap: Global, entries: &mut [Entry]) -> Result<(), AllocError> {
+    let lines = named_lines(heap, entries)?;
+    for entry in entries.iter_mut() {
+        if let Some(line) = twin(entry, &lines) {
+            entry.drive = Err(twice_words(heap, entry, line)?);
         }
-        out.push(entry)?;
     }
-    Ok(out)
+    Ok(())
 }
 
 // The lines of the table in their order, each a room or why there is none.
 pub(crate) fn read(rt: &HostRuntime, table: &str) -> Result<Vec<Entry>, Stop> {
     let heap = rt.alloc();
     let bytes = bytes_of(rt, table)?;
-    let mut reader = Reader::new(bytes.as_slice());
-    pass_header(heap, table, &mut reader)?;
-    let mut entries = Vec::new(heap);
-    for _ in 0..u64::MAX {
-        let Some((entry, more)) = next_entry(heap, &mut reader)? else {
-            break;
-        };
-        entries.push(entry)?;
-        if !more {
-            break;
-        }
-    }
-    without_twins(heap, entries)
+    let reader = Some(Reader::new(bytes.as_slice()));
+    let mut lines = Lines { heap, reader }.filter(|line| !line.as_ref().is_ok_and(is_blank));
+    checked_header(heap, table, lines.next())?;
+    let mut entries: Vec<Entry> = lines.map(|line| entry_of(heap, line)).try_collect(heap)?;
+    refuse_twins(heap, entries.as_mut_slice())?;
+    Ok(entries)
 }

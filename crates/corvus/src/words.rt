@@ -1,94 +1,106 @@
-// Numbers and ranges in words.
+// Numbers, ranges and texts in words.
 use crate::stop::Stop;
+use itertools::Itertools;
 use pile::runs::Run;
+use scenario::numbers::number;
 use std::alloc::{AllocError, Global};
+use std::fmt;
 use std::fmt::Write;
 
-// A decimal number. One above 4,294,967,295 counts as that, which no block, track or place reaches. None for any other text.
-pub(crate) fn number(text: &str) -> Option<u32> {
-    scenario::numbers::number(text)
-}
+// A text in one line, whatever a word of the command line, a path or a field of a table has in it.
+#[derive(Clone, Copy)]
+pub(crate) struct OneLine<'a>(pub(crate) &'a str);
 
-// The words behind the first n.
-pub(crate) fn behind(words: &[String], n: usize) -> &[String] {
-    if n < words.len() {
-        &words[n..]
-    } else {
-        &words[0..0]
+impl fmt::Display for OneLine<'_> {
+    fn fmt<W: fmt::Write>(&self, f: &mut fmt::Formatter<W>) -> fmt::Result {
+        for c in self.0.chars() {
+            f.write_char(if c < ' ' { ' ' } else { c })?;
+        }
+        Ok(())
     }
 }
 
-// The number that a word of the command line says.
+// The number that a word of the command line or a field of a table says.
 pub(crate) fn number_word(heap: Global, what: &str, word: &str) -> Result<u32, Stop> {
-    match number(word) {
-        Some(n) => Ok(n),
-        None => Err(Stop::Said(format!(in heap;
-            "{what}: '{word}' is no number (digits 0 to 9 alone)"
-        )?)),
-    }
+    number(word).ok_or_else(|| {
+        Stop::said(format!(in heap; "{what}: '{word}' is no number (digits 0 to 9 alone)"))
+    })
 }
 
-// Neighbours from the first to the last, both included.
+// Neighbours from the first to the last, both included. By its last, as it is printed: a Run of pile counts in a u32,
+// and what adds to it asks that fewer stand there, which no command would prove.
 #[derive(Clone, Copy)]
 pub(crate) struct Stretch {
     pub(crate) first: u32,
     pub(crate) last: u32,
 }
 
-pub(crate) fn stretch_of(run: Run) -> Stretch {
-    Stretch {
-        first: run.first,
-        last: run.first.saturating_add(run.count).saturating_sub(1),
+impl Stretch {
+    fn count(self) -> u64 {
+        u64::from(self.last.saturating_sub(self.first)).saturating_add(1)
     }
 }
 
-pub(crate) fn stretch_words(heap: Global, s: Stretch) -> Result<String, AllocError> {
-    let first = s.first;
-    let last = s.last;
-    if first == last {
-        format!(in heap; "{first}")
-    } else {
-        format!(in heap; "{first}-{last}")
+impl From<Run> for Stretch {
+    fn from(run: Run) -> Stretch {
+        Stretch {
+            first: run.first,
+            last: run.first.saturating_add(run.count).saturating_sub(1),
+        }
+    }
+}
+
+impl fmt::Display for Stretch {
+    fn fmt<W: fmt::Write>(&self, f: &mut fmt::Formatter<W>) -> fmt::Result {
+        let &Stretch { first, last } = self;
+        if first == last {
+            write!(f, "{first}")
+        } else {
+            write!(f, "{first}-{last}")
+        }
     }
 }
 
 // Adds n behind the others: to the last stretch where it is the next, else as one of its own.
 pub(crate) fn add_next(stretches: &mut Vec<Stretch>, n: u32) -> Result<(), AllocError> {
-    if let Some(s) = stretches.last_mut() {
-        if s.last.saturating_add(1) == n {
-            s.last = n;
-            return Ok(());
-        }
+    match stretches.last_mut() {
+        Some(s) if s.last.saturating_add(1) == n => s.last = n,
+        _ => stretches.push(Stretch { first: n, last: n })?,
     }
-    stretches.push(Stretch { first: n, last: n })?;
     Ok(())
 }
 
 // How many blocks there are in all.
 pub(crate) fn sum_of(stretches: &[Stretch]) -> u64 {
-    let mut sum = 0u64;
+    stretches
+        .iter()
+        .fold(0, |sum, s| s.count().saturating_add(sum))
+}
+
+// A line for each, behind the indent.
+pub(crate) fn add_lines(
+    out: &mut String,
+    indent: &str,
+    stretches: &[Stretch],
+) -> Result<(), AllocError> {
     for s in stretches {
-        sum = sum.saturating_add(u64::from(s.last.saturating_sub(s.first)).saturating_add(1));
+        writeln!(out, "{indent}{s}")?;
     }
-    sum
+    Ok(())
 }
 
 // The first four in one line, and how many more there are.
-pub(crate) fn runs_words(heap: Global, runs: &[Run]) -> Result<String, Stop> {
+pub(crate) fn runs_words(heap: Global, runs: &[Run]) -> Result<String, AllocError> {
     if runs.is_empty() {
-        return Ok(String::from_str(heap, "none")?);
+        return String::from_str(heap, "none");
     }
-    let mut out = String::new(heap);
-    for (i, run) in runs.iter().take(4).enumerate() {
-        if i > 0 {
-            out.push_str(", ")?;
-        }
-        out.push_str(stretch_words(heap, stretch_of(*run))?.as_str())?;
+    let words = runs
+        .iter()
+        .take(4)
+        .map(|&run| Stretch::from(run))
+        .join(heap, ", ")?;
+    match runs.len().saturating_sub(4) {
+        0 => Ok(words),
+        more => format!(in heap; "{words} and {more} more"),
     }
-    let more = runs.len().saturating_sub(4);
-    if more > 0 {
-        let words = format!(in heap; " and {more} more")?;
-        out.push_str(words.as_str())?;
-    }
-    Ok(out)
 }
