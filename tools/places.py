@@ -217,19 +217,17 @@ def switches():
             out.append(f'{path}:{line_at(text, m.start())} a type for one test')
     return out
 
+def named(files, pattern):
+    """What the pattern names in each file."""
+    return [f'{path} {m.group(1)}'
+            for path in sorted(glob.glob(files, recursive=True))
+            for m in re.finditer(pattern, text_of(path), re.M)]
+
 def answers():
-    out = []
-    for path in sorted(glob.glob('crates/*/proofs/**/Answers.antt', recursive=True)):
-        for m in re.finditer(r'^(?:pub )?([\w.-]+) : goal\.', text_of(path), re.M):
-            out.append(f'{path} {m.group(1)}')
-    return out
+    return named('crates/*/proofs/**/Answers.antt', r'^(?:pub )?([\w.-]+) : goal\.')
 
 def lemmas():
-    out = []
-    for path in sorted(glob.glob('crates/*/proofs/*.antt')):
-        for m in re.finditer(r'^ *(?:pub )?([\w.-]+) : ', text_of(path), re.M):
-            out.append(f'{path} {m.group(1)}')
-    return out
+    return named('crates/*/proofs/*.antt', r'^ *(?:pub )?([\w.-]+) : ')
 
 print('1. Own shapes of Option and Result, flags, numbers')
 show('own enums with a case of success', result_shapes())
