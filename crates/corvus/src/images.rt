@@ -30,6 +30,11 @@ pub(crate) struct Asked {
 
 pub(crate) type Images = IndexMap<PathBuf, Asked>;
 
+// The path that an image of the table is known by: a.img and ./a.img are one. Made for each look-up, since it is as long as the name.
+fn path_of(heap: Global, name: &str) -> Result<PathBuf, AllocError> {
+    PathBuf::from_str(heap, name.trim_start_matches("./"))
+}
+
 fn lost_of(heap: Global, image: &ShelfImage<&[u8]>) -> Result<Vec<Stretch>, AllocError> {
     let mut lost = Vec::new(heap);
     let mut buffer = [0u8; 512];
@@ -86,15 +91,30 @@ pub(crate) fn blocks_below<'a>(
 
 // The images that the rooms name, in the order in which they are first named. Each is read once.
 pub(crate) fn images_of(rt: &HostRuntime, table: &str, entries: &[Entry]) -> Result<Images, Stop> {
-    let mut images = IndexMap::new(rt.alloc());
-    for name in entries.iter().filter_map(|entry| entry.image.as_ref()) {
-        if !images.contains_key(&name.path) {
+    let heap = rt.alloc();
+    let mut images = IndexMap::new(heap);
+    for name in entries.iter().filter_map(|entry| entry.image.as_deref()) {
+        let path = path_of(heap, name)?;
+        if !images.contains_key(&path) {
             let asked = Asked {
-                name: name.text.clone()?,
-                facts: facts_beside(rt, table, name.text.as_str())?,
+                name: String::from_str(heap, name)?,
+                facts: facts_beside(rt, table, name)?,
             };
-            images.insert(name.path.clone()?, asked)?;
+            images.insert(path, asked)?;
         }
     }
     Ok(images)
+}
+
+// The place, among the images, of the one that the room names.
+pub(crate) fn place_of(
+    heap: Global,
+    images: &Images,
+    entry: &Entry,
+) -> Result<Option<usize>, AllocError> {
+    let Some(name) = entry.image.as_deref() else {
+        return Ok(None);
+    };
+    let path = path_of(heap, name)?;
+    Ok(images.get_index_of(&path))
 }

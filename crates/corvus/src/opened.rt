@@ -70,7 +70,7 @@ impl Room<'_> {
         } = self.entry(rt)?;
         let drive = drive.map_err(|why| self.closed(heap, line, why.as_str()))?;
         let image = image
-            .map(|name| facts_beside(rt, self.table, name.text.as_str()))
+            .map(|name| facts_beside(rt, self.table, name.as_str()))
             .transpose()?;
         let count = blocks_below(&drive, image.as_ref()).map_err(|why| self.closed(
             heap, line, why,

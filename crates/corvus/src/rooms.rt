@@ -1,7 +1,7 @@
 // The list of a table's rooms, and which of them share an image.
 use crate::columns::{Row, Side, laid_out, title};
 use crate::drive::Drive;
-use crate::images::{Asked, Facts, Images, blocks_below, images_of};
+use crate::images::{Asked, Facts, Images, blocks_below, images_of, place_of};
 use crate::stop::{Stop, settled};
 use crate::table;
 use crate::table::Entry;
@@ -36,15 +36,21 @@ impl Shown {
         }
     }
 
-    fn row(&self, heap: Global) -> Result<Row, AllocError> {
-        let mut cells = vec![in heap; String::from_str(heap, self.entry.shown_name())?]?;
-        if let Some(Taken { blocks, places }) = &self.taken {
+    // Of the room itself, so that its words are not copied.
+    fn into_row(self, heap: Global) -> Result<Row, AllocError> {
+        let Shown {
+            entry,
+            taken,
+            image,
+        } = self;
+        let mut cells = vec![in heap; String::from_str(heap, entry.shown_name())?]?;
+        if let Some(Taken { blocks, places }) = &taken {
             cells.push(blocks.to_string(heap)?)?;
             cells.push(runs_words(heap, places.as_slice())?)?;
         }
-        let line = self.entry.line;
-        let tail = match &self.image {
-            Ok(words) => words.clone()?,
+        let line = entry.line;
+        let tail = match image {
+            Ok(words) => words,
             Err(why) => format!(in heap; "line {line}: {why}")?,
         };
         Ok(Row { cells, tail })
@@ -72,10 +78,6 @@ fn image_words(heap: Global, asked: Option<&Asked>, total: u32) -> Result<String
     Err(Stop::said(format!(in heap;
         "{name}: {count} blocks, {lost}, does not fit: {total} are needed"
     )))
-}
-
-fn asked_by<'a>(images: &'a Images, entry: &Entry) -> Option<&'a Asked> {
-    images.get(&entry.image.as_ref()?.path)
 }
 
 // The drive of a room and how many blocks lie below it, or why the room is refused.
@@ -115,6 +117,18 @@ fn names_of(heap: Global, rooms: &[&Shown]) -> Result<String, AllocError> {
         .join(heap, ", ")
 }
 
+// The others that overlap with the room, a line each.
+fn add_overlaps(out: &mut String, room: &Shown, others: &[&Shown]) -> Result<(), AllocError> {
+    for other in others {
+        if let Some(place) = common(room, other) {
+            let a = room.entry.shown_name();
+            let b = other.entry.shown_name();
+            writeln!(out, "  {a} and {b} overlap, as at place {place}")?;
+        }
+    }
+    Ok(())
+}
+
 // Which rooms share the image, and which of them overlap in it.
 fn add_sharing(
     heap: Global,
@@ -125,24 +139,33 @@ fn add_sharing(
     let image = image.name.as_str();
     let names = names_of(heap, sharers)?;
     writeln!(out, "{image} is shared by {names}")?;
-    for pair in sharers.iter().tuple_combinations::<(_, _), _>(heap)? {
-        let (a, b) = pair?;
-        if let Some(place) = common(a, b) {
-            let a = a.entry.shown_name();
-            let b = b.entry.shown_name();
-            writeln!(out, "  {a} and {b} overlap, as at place {place}")?;
-        }
+    // Not `tuple_combinations`, which takes heap for each pair.
+    for (i, room) in sharers.iter().enumerate() {
+        add_overlaps(out, room, &sharers[i + 1..])?;
     }
     Ok(())
 }
 
+// For each of the images, in their order, the rooms on it. By one walk over the rooms: a walk for each image would compare every path with each.
+fn rooms_on<'a>(
+    heap: Global,
+    rooms: &'a [Shown],
+    images: &Images,
+) -> Result<Vec<Vec<&'a Shown>>, AllocError> {
+    let mut groups: Vec<Vec<&Shown>> = images.iter().map(|_| Vec::new(heap)).collect(heap)?;
+    for room in rooms {
+        let place = place_of(heap, images, &room.entry)?;
+        if let Some(group) = place.and_then(|i| groups.get_mut(i)) {
+            group.push(room)?;
+        }
+    }
+    Ok(groups)
+}
+
 fn sharing(heap: Global, rooms: &[Shown], images: &Images) -> Result<String, AllocError> {
     let mut out = String::new(heap);
-    for (path, image) in images.iter() {
-        let sharers: Vec<&Shown> = rooms
-            .iter()
-            .filter(|room| room.entry.is_on(path))
-            .collect(heap)?;
+    let groups = rooms_on(heap, rooms, images)?;
+    for ((_, image), sharers) in images.iter().zip(groups.iter()) {
         if sharers.len() > 1 {
             add_sharing(heap, &mut out, image, sharers.as_slice())?;
         }
@@ -150,10 +173,10 @@ fn sharing(heap: Global, rooms: &[Shown], images: &Images) -> Result<String, All
     Ok(out)
 }
 
-fn list(heap: Global, rooms: &[Shown]) -> Result<String, AllocError> {
+fn list(heap: Global, rooms: Vec<Shown>) -> Result<String, AllocError> {
     let mut rows = vec![in heap; title(heap, &["room", "blocks", "places"], "image")?]?;
     for room in rooms {
-        rows.push(room.row(heap)?)?;
+        rows.push(room.into_row(heap)?)?;
     }
     laid_out(
         heap,
@@ -172,13 +195,16 @@ pub(crate) fn rooms(rt: &HostRuntime, table: &str) -> Result<(), Stop> {
     let images = images_of(rt, table, entries.as_slice())?;
     let mut rooms = Vec::new(heap);
     for entry in entries {
-        let asked = asked_by(&images, &entry);
-        rooms.push(shown_of(heap, entry, asked)?)?;
+        let place = place_of(heap, &images, &entry)?;
+        let asked = place.and_then(|i| images.get_index(i));
+        rooms.push(shown_of(heap, entry, asked.map(|(_, asked)| asked))?)?;
     }
-    rt.print(list(heap, rooms.as_slice())?)?;
-    rt.print(sharing(heap, rooms.as_slice(), &images)?)?;
+    let shared = sharing(heap, rooms.as_slice(), &images)?;
     let all = rooms.len();
-    match rooms.iter().filter(|room| room.image.is_err()).count() {
+    let bad = rooms.iter().filter(|room| room.image.is_err()).count();
+    rt.print(list(heap, rooms)?)?;
+    rt.print(shared)?;
+    match bad {
         0 => Ok(()),
         bad => Err(Stop::said(format!(in heap; "{table}: faults in {bad} of {all} rooms"))),
     }

@@ -105,8 +105,8 @@ impl Play<'_> {
         Ok(())
     }
 
-    // The stand-in, which the first packet sets up.
-    fn serving(&mut self, heap: Global) -> Result<&mut StandIn, Stop> {
+    // From what is laid on to the stand-in that serves it.
+    fn set_up(&mut self) {
         self.stage = match mem::replace(&mut self.stage, Stage::Empty) {
             Stage::Laid(laid) => Stage::Serving(match self.manner {
                 Manner::Saved => StandIn::saving(laid),
@@ -114,6 +114,13 @@ impl Play<'_> {
             }),
             stage => stage,
         };
+    }
+
+    // The stand-in, which the first packet sets up. Only that one: to take the stage out and put it back costs more than to serve a packet.
+    fn serving(&mut self, heap: Global) -> Result<&mut StandIn, Stop> {
+        if matches!(&self.stage, Stage::Laid(_)) {
+            self.set_up();
+        }
         match &mut self.stage {
             Stage::Serving(stand_in) => Ok(stand_in),
             _ => Err(said(heap, "a packet needs a volume line above it")),

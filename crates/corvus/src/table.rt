@@ -11,30 +11,15 @@ use sheet::reader::Reader;
 use sheet::reader::records::Record;
 use std::alloc::{AllocError, Global};
 use std::collections::HashMap;
-use std::path::PathBuf;
 
 const HEADER: &str = "room,image,tracks,sectors,firmware,spares,spared,offset,length";
-
-// An image as the table names it, and the path that it is known by: a.img and ./a.img are one.
-#[derive(Drop)]
-pub(crate) struct ImageName {
-    pub(crate) text: String,
-    pub(crate) path: PathBuf,
-}
-
-impl ImageName {
-    fn new(heap: Global, text: String) -> Result<ImageName, AllocError> {
-        let path = PathBuf::from_str(heap, text.as_str().trim_start_matches("./"))?;
-        Ok(ImageName { text, path })
-    }
-}
 
 // A line of the table: a room, or why there is none.
 #[derive(Drop)]
 pub(crate) struct Entry {
     pub(crate) line: usize,
     pub(crate) name: Option<String>,
-    pub(crate) image: Option<ImageName>,
+    pub(crate) image: Option<String>,
     pub(crate) drive: Result<Drive, String>,
 }
 
@@ -42,10 +27,6 @@ impl Entry {
     // A line without a name is found by an empty one.
     pub(crate) fn is_named(&self, name: &str) -> bool {
         self.name.as_deref().unwrap_or("") == name
-    }
-
-    pub(crate) fn is_on(&self, image: &PathBuf) -> bool {
-        self.image.as_ref().is_some_and(|name| name.path == *image)
     }
 
     // The name that is shown, or a dash where there is none.
@@ -238,9 +219,7 @@ fn entry_of(heap: Global, line: Result<Record, Fault>) -> Result<Entry, Stop> {
     let drive = settled(drive_of(heap, texts.as_slice()))?;
     let mut texts = texts.into_iter();
     let name = owned(texts.next());
-    let image = owned(texts.next())
-        .map(|text| ImageName::new(heap, text))
-        .transpose()?;
+    let image = owned(texts.next());
     Ok(Entry {
         line: record.line,
         name,
