@@ -8,7 +8,7 @@ use Rattle.bank.specs.Banks.{all_bytes}
 use Rattle.bank.specs.declared.Bank.{Bank}
 use Rattle.bank.specs.declared.held.Held.{Held}
 
-length-settled : (bytes : List ℕ) (held : Option Held) → held_end held ≤ length bytes → length (settled bytes held) ≡ length bytes
+pub length-settled : (bytes : List ℕ) (held : Option Held) → held_end held ≤ length bytes → length (settled bytes held) ≡ length bytes
 length-settled bytes None inside = refl
 length-settled bytes (Some held) inside = length-with_part bytes (1024 * held.sector) held.bytes (omega (arith, held.full))
 

@@ -38,6 +38,20 @@ impl Held {
         bytes[from..from + 1024].copy_from_slice(&self.bytes);
     }
 
+    // Puts the sector in its place and takes another one. In place: a new Held would be copied once more.
+    pub(crate) fn exchange(&mut self, bytes: &mut [u8], sector: u32)
+        requires old { 1024 * self.old.sector + 1024 ≤ length bytes.old }
+        requires new { 1024 * sector + 1024 ≤ length bytes.old }
+        ensures sector { self.new.sector ≡ sector }
+        ensures put { bytes.new ≡ with_part bytes.old (1024 * self.old.sector) self.old.bytes }
+        ensures bytes { self.new.bytes ≡ part bytes.new (1024 * sector) 1024 }
+    {
+        self.put_into(bytes);
+        let from = 1024 * sector as usize;
+        self.bytes.copy_from_slice(&bytes[from..from + 1024]);
+        self.sector = sector;
+    }
+
     pub(crate) fn half(&self, half: u32) -> &[u8]
         requires { half < 2 }
         ensures { result.now ≡ block_bytes self.now.bytes half }

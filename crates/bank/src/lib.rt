@@ -49,9 +49,11 @@ impl Bank {
         ensures none { self.new.held ≡ None }
         ensures same { meaning_of self.new ≡ meaning_of self.old }
     {
-        if let Some(held) = self.held.take() {
+        // Lent, since to take it out would copy it once more.
+        if let Some(held) = &self.held {
             held.put_into(self.bytes.as_mut_slice());
         }
+        self.held = None;
     }
 
     // The bytes, with the held sector put back.
@@ -78,9 +80,12 @@ impl Bank {
         ensures held { IsTrue (is_held self.new.held sector) }
         ensures all { all_bytes self.new ≡ all_bytes self.old }
     {
-        if !self.holds(sector) {
-            self.put_back();
-            self.held = Some(Held::copy_of(self.bytes.as_slice(), sector));
+        if self.holds(sector) {
+            return;
+        }
+        match &mut self.held {
+            Some(held) => held.exchange(self.bytes.as_mut_slice(), sector),
+            None => self.held = Some(Held::copy_of(self.bytes.as_slice(), sector)),
         }
     }
 
