@@ -1,5 +1,5 @@
 -- What a search and a test say of a rising list.
-use Rattle.std.proofs.Common.{◌≡◌, ℕ, zero, suc, ◌+◌, ◌<◌, ◌≤◌, Bool, true, false, ltb, leb, ◌&&◌, [], ◌∷◌, List, length, get_or, Some, None, Ok, Err, Result, refl, sym, ap, ◌∙◌, add-one, arith}
+use Rattle.std.proofs.Common.{◌≡◌, ℕ, zero, suc, ◌+◌, ◌-◌, ◌<◌, ◌≤◌, Bool, true, false, ltb, leb, ◌&&◌, [], ◌∷◌, List, length, get_or, Some, None, Ok, Err, Result, refl, sym, ap, ◌∙◌, add-one, arith}
 use Rattle.std.specs.List.{AllAdjacentBelow, fold, list_all}
 use Rattle.std.specs.List.Sorted.{IsBinarySearchResult}
 use Rattle.std.specs.Ordering.{nat_cmp}
@@ -32,7 +32,18 @@ rising_from_places (x ∷ xs) lo hi low up high =
     rising-from lo hi x xs (low (omega arith)) (high 0 (omega arith))
     (rising_from_places xs (x + 1) hi (λ some. omega (arith, up 0 0 (omega arith))) (λ k d h. simp add-one (simp add-one at (up (suc k) d (omega arith)))) (λ i h. high (suc i) (omega arith)))
 
+-- it is no longer than what it rises through
+rising_short : (xs : List ℕ) (lo hi : ℕ) → rising lo hi xs ≡ true → length xs ≤ hi - lo
+rising_short [] lo hi up = omega arith
+rising_short (x ∷ xs) lo hi up =
+    let p = rising_head lo hi x xs up in
+    let q = rising_short xs (x + 1) hi p.2 in
+    omega (arith, p, q)
+
 -- The test that a list rises
+
+pub rising_long : (xs : List ℕ) (lo hi : ℕ) → hi - lo < length xs → false ≡ rising lo hi xs
+rising_long xs lo hi long = grind (arith, cases_Bool (rising lo hi xs), λ (up : rising lo hi xs ≡ true). rising_short xs lo hi up)
 
 pub rising_unsorted : (xs : List ℕ) (lo hi : ℕ) → (k : ℕ) × (k + 1 < length xs) × ((d : ℕ) → false ≡ ltb (get_or xs k d) (get_or xs (k + 1) d)) → false ≡ rising lo hi xs
 rising_unsorted xs lo hi w = grind (arith, nat_tests, cases_Bool (rising lo hi xs), w.2 0, λ (up : rising lo hi xs ≡ true). rising_adjacent xs lo hi up w.0 0 w.1)

@@ -44,5 +44,9 @@ impl Shape {
 fn is_rising(list: &[u32], lo: u32, hi: u32) -> bool
     ensures { result ≡ rising lo hi list.now }
 {
+    // Of a longer list not each element has to be looked at.
+    if list.len() > hi.saturating_sub(lo) as usize {
+        return false;
+    }
     list.is_sorted_by(|a, b| a < b) && list.iter().all(|s| (lo..hi).contains(s))
 }

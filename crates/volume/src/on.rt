@@ -31,7 +31,11 @@ impl<U: Placement, L: Placement> Placement for On<U, L> {
     }
 
     fn block_at(&self, place: u32) -> Option<u32> {
-        self.upper
-            .block_on(self.lower.count(), self.lower.block_at(place))
+        let there = self.lower.count();
+        // Asked here too, so that the lower is not searched in vain.
+        if self.upper.total() > there {
+            return None;
+        }
+        self.upper.block_on(there, self.lower.block_at(place))
     }
 }
