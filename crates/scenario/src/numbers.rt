@@ -13,6 +13,7 @@ fn is_digits(text: &str) -> bool
 }
 
 // A decimal number. One above 4,294,967,295 counts as that, which no block, track or place reaches. None for any other text.
+#[tactic(auto, using(crate::proofs::Digits::no_text, crate::proofs::Digits::no_number, crate::proofs::Digits::parsed))]
 pub fn number(text: &str) -> Option<u32>
     ensures { result ≡ number_of text.now }
 {

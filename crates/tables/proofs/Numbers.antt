@@ -1,21 +1,47 @@
 -- What a number or a name finds among the pipes.
-use Rattle.std.proofs.Common.{◌≡◌, ℕ, zero, suc, ◌+◌, ◌<◌, ◌≤◌, min, Bool, true, false, List, [], ◌∷◌, length, drop, set, is_some, Some, None, Option, MatchOption, sym, refl, ap, ◌∙◌, ⊎_elim, ◌||◌, Bor, arith}
-use Rattle.std.specs.List.{insert, refill, list_any}
+use Rattle.std.proofs.Common.{◌≡◌, ℕ, zero, suc, ◌+◌, ◌<◌, ◌≤◌, min, Bool, true, false, List, [], ◌∷◌, length, get_or, drop, set, is_some, Some, None, Option, MatchOption, sym, refl, ap, ◌∙◌, ⊎_elim, Bor, arith}
+use Rattle.std.specs.List.{insert, refill}
 use Rattle.std.specs.Option.{option_copied, option_map}
 use Rattle.std.proofs.lemmas.List.{set_split, length-set, take_at}
-use Rattle.std.proofs.lemmas.List.Recursion.{same_from_clauses}
 use Rattle.std.proofs.lemmas.Bool.{cond-true, cond-false, cases_lt}
 use Rattle.model.specs.declared.pipe.Pipe.{Pipe}
+use Rattle.model.specs.declared.pipe.Access.TheVariants.{Closed}
 use Rattle.model.specs.Pipes.{numbered, find, there, any, first_start, next_start, exchanged, inserted, unused}
 use Rattle.tables.specs.Places.{later, place}
-use Rattle.tables.proofs.Firsts.{by_place, instead, instead_by}
+use Rattle.tables.proofs.Firsts.{by_place, there_by, instead, instead_by}
 
 pub copied_told : (o : Option (Bor Pipe)) → option_copied o ≡ option_map (λ p. p.now) o
 copied_told None = refl
 copied_told (Some p) = refl
 
-pub any_told : (test : Pipe → Bool) (ps : List Pipe) → list_any test ps ≡ any test ps
-any_told test = same_from_clauses (list_any test) (any test) (λ p b. test p || b) refl (λ _ _. refl) (λ _ _. refl)
+-- The pipe that is found, or that there is one
+
+is_there : {X : Type 0} (o : Option X) → there o ≡ is_some o
+is_there None = refl
+is_there (Some x) = refl
+
+pub any_told : (test : Pipe → Bool) (ps : List Pipe) (o : Option ℕ) → o ≡ place test ps → is_some o ≡ any test ps
+any_told test ps o e = sym (is_there o) ∙ ap there e ∙ sym (there_by test (any test) refl (λ _ _. refl) ps)
+
+-- any pipe does
+abbrev pub no_pipe : Pipe
+no_pipe = record { number = 0; name = 0; start = 0; end = 0; access = Closed }
+
+abbrev pub picked : Pipe → Option ℕ → List Pipe → Option Pipe
+picked d None ps = None
+picked d (Some i) ps = Some (get_or ps i d)
+
+picked-later : (d : Pipe) (o : Option ℕ) (p : Pipe) (ps : List Pipe) → picked d o ps ≡ picked d (later o) (p ∷ ps)
+picked-later d None p ps = refl
+picked-later d (Some i) p ps = refl
+
+find-place : (k : ℕ) (d : Pipe) (ps : List Pipe) → find k ps ≡ picked d (place (numbered k) ps) ps
+find-place k d =
+    by_place (numbered k) (λ ps o. find k ps ≡ picked d o ps) refl (λ p ps e. cond-true _ _ _ e)
+    (λ p ps o e h. cond-false _ _ _ e ∙ h ∙ picked-later d o p ps)
+
+pub picked_told : (k : ℕ) (d : Pipe) (ps : List Pipe) (o : Option ℕ) → o ≡ place (numbered k) ps → picked d o ps ≡ find k ps
+picked_told k d ps o e = ap (λ j. picked d j ps) e ∙ sym (find-place k d ps)
 
 -- The entry behind, and the list with one exchanged or removed
 
@@ -52,10 +78,6 @@ inserted_told zero m p ps h = let e : m ≡ 0 = omega arith in ap (λ j. insert 
 inserted_told (suc n) m p [] h = let e : m ≡ 0 = omega arith in ap (λ j. insert [] j p) e
 inserted_told (suc n) zero p (q ∷ ps) h = absurd (omega arith)
 inserted_told (suc n) (suc m) p (q ∷ ps) h = ap (λ l. q ∷ l) (inserted_told n m p ps (omega arith))
-
-is_there : {X : Type 0} (o : Option X) → there o ≡ is_some o
-is_there None = refl
-is_there (Some x) = refl
 
 module _ (ps : List Pipe) where
   abbrev pub Used : ℕ → Type 0

@@ -139,10 +139,8 @@ impl Pipes {
     pub fn find(&self, number: u8) -> Option<Pipe>
         ensures { result ≡ find number (pipes_of self.now) }
     {
-        self.pipes()
-            .iter()
-            .find(|pipe| number == pipe.number)
-            .copied()
+        let i = self.place(number)?;
+        Some(self.pipes()[i])
     }
 
     // The start of the entry behind the pipe, or the top where there is none.
@@ -158,15 +156,16 @@ impl Pipes {
     pub fn has_writer(&self, name: u64) -> bool
         ensures { result ≡ any (named_writing name) (pipes_of self.now) }
     {
-        self.pipes()
-            .iter()
-            .any(|pipe| name == pipe.name && pipe.access.is_writing())
+        place_of(self.pipes(), |pipe| {
+            name == pipe.name && pipe.access.is_writing()
+        })
+        .is_some()
     }
 
     pub fn has_name(&self, name: u64) -> bool
         ensures { result ≡ any (named name) (pipes_of self.now) }
     {
-        self.pipes().iter().any(|pipe| name == pipe.name)
+        place_of(self.pipes(), |pipe| name == pipe.name).is_some()
     }
 
     // A number from 1 to 62 that no pipe has, the lowest of them, where there is room for one more.

@@ -1,12 +1,9 @@
-use Rattle.std.proofs.Common.{◌∙◌, rules, tests}
-use Rattle.std.proofs.lemmas.Iterator.{YieldsList-from_slice}
-use Rattle.std.proofs.lemmas.Iterator.Search.{any_from_yields_List}
-use Rattle.model.specs.Pipes.{named_writing}
-use Rattle.tables.specs.Entries.{pipes_of}
+use Rattle.std.proofs.Common.{ap, ◌∙◌, rules, tests}
+use Rattle.model.specs.Pipes.{named_writing, any}
 use Rattle.tables.proofs.Numbers.{any_told}
 use Rattle.tables.proofs.pipes.Pipes.has_writer.Goals as goal
 
 pub returns : goal.returns
 returns c =
-    any_from_yields_List (named_writing c.args.name) _ _ c.any.result c.any.ensures.ran (YieldsList-from_slice (pipes_of c.args.self.now) cc) (λ x b q k. search (rules, tests))
-    ∙ any_told (named_writing c.args.name) (pipes_of c.args.self.now)
+    let test = named_writing c.args.name in
+    c.is_some.ensures ∙ any_told test c.pipes.result.now c.place_of.result (c.place_of.ensures.found test (λ x b q k. search (rules, tests))) ∙ ap (any test) c.pipes.ensures.pipes
