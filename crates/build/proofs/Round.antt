@@ -31,7 +31,7 @@ write_back z d s b h =
     elim z as (λ v. length b ≡ size_bytes v → decoded (packet_of (write v d s b)) ≡ Ok (write v d s b))
     [ Bytes128 ↦ λ e. rw (e, a.0, a.1) | Bytes256 ↦ λ e. rw (e, a.0, a.1) | Bytes256Again ↦ λ e. rw (e, a.0, a.1) | Bytes512 ↦ λ e. rw (e, a.0, a.1) ] l
 
-round : (c : Command) → Typed c → in_range c ≡ true → decoded (packet_of c) ≡ Ok c
+pub round : (c : Command) → Typed c → in_range c ≡ true → decoded (packet_of c) ≡ Ok c
 round (read z d s) m h = read_back z d s h
 round (write z d s b) m h = write_back z d s b h
 round (lock n) m h = rw (from_be_bytes-to_be_bytes_8 n m)

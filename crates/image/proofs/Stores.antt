@@ -1,12 +1,12 @@
 -- What a stored block changes of an image: that block, and nothing else.
-use Rattle.std.proofs.Common.{◌≡◌, ℕ, ◌+◌, ◌*◌, ◌<◌, ◌≤◌, true, ◌≢◌, ◌⊎◌, List, length, get_or, set, sym, ap, ◌∙◌, inl, inr, ⊎_elim, arith}
+use Rattle.std.proofs.Common.{◌≡◌, ℕ, ◌+◌, ◌*◌, ◌<◌, ◌≤◌, Bool, true, ◌≢◌, ◌⊎◌, List, length, get_or, set, sym, ap, ◌∙◌, inl, inr, ⊎_elim, arith}
 use mathlib.Core.Path.{fun_ext}
 use Rattle.std.proofs.lemmas.List.{length-set, get_or-set_same, get_or-set_other}
 use Rattle.std.proofs.lemmas.Bool.{cond-true, lt-ltb, cases_lt}
 use Rattle.std.proofs.lemmas.Bool.Decides.{nat_tests}
 use Rattle.volume.proofs.Overwritten.{same_parts, length-with_part, with_part_out, part_new}
 use Rattle.volume.specs.Parts.{part}
-use Rattle.volume.specs.Meanings.{with_block, written}
+use Rattle.volume.specs.Meanings.{with_block, with_bottom, written}
 use Rattle.image.specs.Images.{header_of, block_at, image_meaning, stored, Fits}
 use Rattle.image.specs.Heads.{header_same, own_fits}
 use Rattle.image.specs.declared.header.Header.{Header}
@@ -63,7 +63,10 @@ module _ (h : Header) (bs d cs : List ℕ) (i : ℕ) (own : h ≡ header_of bs) 
   pub header-stored : h ≡ header_of cs
   header-stored = rw (own, is) (sym (header_same (stored h bs i d) bs (length-stored h bs d i fits within block) (header_kept h bs d i fits within block)))
 
-  pub meaning-stored : image_meaning true cs ≡ written (image_meaning true bs) i d
-  meaning-stored =
+  pub meaning_stored : (writable : Bool) → image_meaning writable cs ≡ with_bottom (image_meaning writable bs) (with_block (block_at h bs) i d)
+  meaning_stored writable =
       let blocks : block_at h cs ≡ with_block (block_at h bs) i d = ap (block_at h) is ∙ fun_ext (blocks-stored h bs d i fits within block) in
-      rw (← header-stored, ← own, cond-true _ _ _ (lt-ltb i h.count within), blocks)
+      rw (← header-stored, ← own, blocks)
+
+  pub meaning-stored : image_meaning true cs ≡ written (image_meaning true bs) i d
+  meaning-stored = meaning_stored true ∙ rw (← own, cond-true _ _ _ (lt-ltb i h.count within))
