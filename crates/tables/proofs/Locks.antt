@@ -1,5 +1,5 @@
 -- A lock and an unlock by what their search finds.
-use Rattle.std.proofs.Common.{◌≡◌, ℕ, ◌<◌, true, false, eqb, List, [], ◌∷◌, length, set, Some, None, Option, Ok, Err, Result, sym, refl, ap, ◌∙◌}
+use Rattle.std.proofs.Common.{◌≡◌, ℕ, ◌<◌, true, false, eqb, Bool, List, [], ◌∷◌, length, set, Some, None, Option, Ok, Err, sym, refl, ap, ◌∙◌}
 use Rattle.std.specs.Option.{is_some}
 use Rattle.std.proofs.lemmas.List.{set_split}
 use Rattle.std.proofs.lemmas.Bool.{cond-true, cond-false, ne_eqb}
@@ -9,7 +9,7 @@ use Rattle.tables.specs.declared.answers.LockRefusal.{LockRefusal}
 use Rattle.tables.specs.declared.answers.LockRefusal.TheVariants as lock
 use Rattle.tables.specs.declared.answers.UnlockRefusal.{UnlockRefusal}
 use Rattle.tables.specs.declared.answers.UnlockRefusal.TheVariants as unlock
-use Rattle.tables.specs.Places.{place, PlaceWithin}
+use Rattle.tables.specs.Places.{place}
 use Rattle.tables.specs.Locks.{lock_outcome, unlock_outcome}
 use Rattle.tables.proofs.Firsts.{instead, there_by, instead_by}
 
@@ -28,29 +28,24 @@ module _ (n : ℕ) (xs : List ℕ) (other : n ≡ blank → ⊥) where
   not-blank : eqb n blank ≡ false
   not-blank = ne_eqb n blank other
 
-  pub lock_present : (o : Option ℕ) → o ≡ place (eqb n) xs → true ≡ is_some o → (Err lock.Present, xs) ≡ lock_outcome xs n
-  lock_present o e t = sym (cond-false _ _ _ not-blank ∙ cond-true _ _ _ (has-place n xs ∙ ap there (sym e) ∙ sym (there-some o) ∙ sym t))
+  has-some : (b : Bool) → is_some (place (eqb n) xs) ≡ b → has n xs ≡ b
+  has-some b t = has-place n xs ∙ sym (there-some (place (eqb n) xs)) ∙ t
 
-  -- by the place of a free entry
-  abbrev pub locked : Option ℕ → Result (Unit {0}) LockRefusal × List ℕ
-  locked (Some j) = (Ok tt, set xs j n)
-  locked None = (Err lock.Full, xs)
+  pub lock_present : is_some (place (eqb n) xs) ≡ true → (Err lock.Present, xs) ≡ lock_outcome xs n
+  lock_present t = sym (cond-false _ _ _ not-blank ∙ cond-true _ _ _ (has-some true t))
 
-  pub locked_told : (o f : Option ℕ) → o ≡ place (eqb n) xs → false ≡ is_some o → f ≡ place (eqb blank) xs → PlaceWithin f (length xs) → locked f ≡ lock_outcome xs n
-  locked_told o f e t k h = by f k h where
-    absent : has n xs ≡ false
-    absent = has-place n xs ∙ ap there (sym e) ∙ sym (there-some o) ∙ sym t
+  pub lock_full : is_some (place (eqb n) xs) ≡ false → place (eqb blank) xs ≡ None → (Err lock.Full, xs) ≡ lock_outcome xs n
+  lock_full t k = sym (cond-false _ _ _ not-blank ∙ cond-false _ _ _ (has-some false t) ∙ cond-false _ _ _ (has-place blank xs ∙ ap there k))
 
-    by : (f : Option ℕ) → f ≡ place (eqb blank) xs → PlaceWithin f (length xs) → locked f ≡ lock_outcome xs n
-    by (Some j) k h = ap (λ l. (Ok tt, l)) (sym (replaced-set blank n j xs (sym k) h)) ∙ sym (cond-false _ _ _ not-blank ∙ cond-false _ _ _ absent ∙ cond-true _ _ _ (has-place blank xs ∙ ap there (sym k)))
-    by None k h = sym (cond-false _ _ _ not-blank ∙ cond-false _ _ _ absent ∙ cond-false _ _ _ (has-place blank xs ∙ ap there (sym k)))
+  pub lock_taken : (i : ℕ) → is_some (place (eqb n) xs) ≡ false → place (eqb blank) xs ≡ Some i → i < length xs → (Ok tt, set xs i n) ≡ lock_outcome xs n
+  lock_taken i t k h =
+      ap (λ l. (Ok tt, l)) (sym (replaced-set blank n i xs k h))
+      ∙ sym (cond-false _ _ _ not-blank ∙ cond-false _ _ _ (has-some false t) ∙ cond-true _ _ _ (has-place blank xs ∙ ap there k))
 
-  abbrev pub unlocked : Option ℕ → Result (Unit {0}) UnlockRefusal × List ℕ
-  unlocked None = (Err unlock.Absent, xs)
-  unlocked (Some i) = (Ok tt, set xs i blank)
+  pub unlock_absent : place (eqb n) xs ≡ None → (Err unlock.Absent, xs) ≡ unlock_outcome xs n
+  unlock_absent e = sym (cond-false _ _ _ not-blank ∙ cond-false _ _ _ (has-place n xs ∙ ap there e))
 
-  pub unlocked_told : (o : Option ℕ) → o ≡ place (eqb n) xs → PlaceWithin o (length xs) → unlocked o ≡ unlock_outcome xs n
-  unlocked_told None e h = sym (cond-false _ _ _ not-blank ∙ cond-false _ _ _ (has-place n xs ∙ ap there (sym e)))
-  unlocked_told (Some i) e h =
-      ap (λ l. (Ok tt, l)) (sym (replaced-set n blank i xs (sym e) h))
-      ∙ sym (cond-false _ _ _ not-blank ∙ cond-true _ _ _ (has-place n xs ∙ ap there (sym e)))
+  pub unlock_removed : (i : ℕ) → place (eqb n) xs ≡ Some i → i < length xs → (Ok tt, set xs i blank) ≡ unlock_outcome xs n
+  unlock_removed i e h =
+      ap (λ l. (Ok tt, l)) (sym (replaced-set n blank i xs e h))
+      ∙ sym (cond-false _ _ _ not-blank ∙ cond-true _ _ _ (has-place n xs ∙ ap there e))

@@ -1,7 +1,8 @@
 // The semaphore table: 32 names.
-ghost use Rattle.std.specs.Prelude.{◌≡◌, length};
+ghost use Rattle.std.specs.Prelude.{◌≡◌, eqb, length};
 ghost use Rattle.model.specs.Semaphores.{no_names};
 ghost use Rattle.tables.specs.Locks.{lock_outcome, unlock_outcome};
+ghost use Rattle.tables.specs.Places.{place, PlaceWithin};
 
 use crate::answers::{LockRefusal, UnlockRefusal};
 use crate::search::place_of;
@@ -35,29 +36,39 @@ impl Semaphores {
         &self.names
     }
 
+    // Where the name stands; of the blank name, the first free entry.
+    fn place(&self, name: u64) -> Option<usize>
+        ensures found { result ≡ place (eqb name) (names_of self.now) }
+        ensures inside { PlaceWithin result (length (names_of self.now)) }
+    {
+        place_of(&self.names, |&entry| name == entry)
+    }
+
+    #[tactic(auto, using(crate::proofs::Locks::lock_present, crate::proofs::Locks::lock_full, crate::proofs::Locks::lock_taken))]
     pub fn lock(&mut self, name: u64) -> Result<(), LockRefusal>
         ensures { (result, names_of self.new) ≡ lock_outcome (names_of self.old) name }
     {
         if name == BLANK {
             return Err(LockRefusal::Blank);
         }
-        if place_of(&self.names, |&entry| name == entry).is_some() {
+        if self.place(name).is_some() {
             return Err(LockRefusal::Present);
         }
-        let Some(i) = place_of(&self.names, |&entry| BLANK == entry) else {
+        let Some(i) = self.place(BLANK) else {
             return Err(LockRefusal::Full);
         };
         self.names[i] = name;
         Ok(())
     }
 
+    #[tactic(auto, using(crate::proofs::Locks::unlock_absent, crate::proofs::Locks::unlock_removed))]
     pub fn unlock(&mut self, name: u64) -> Result<(), UnlockRefusal>
         ensures { (result, names_of self.new) ≡ unlock_outcome (names_of self.old) name }
     {
         if name == BLANK {
             return Err(UnlockRefusal::Blank);
         }
-        let Some(i) = place_of(&self.names, |&entry| name == entry) else {
+        let Some(i) = self.place(name) else {
             return Err(UnlockRefusal::Absent);
         };
         self.names[i] = BLANK;
