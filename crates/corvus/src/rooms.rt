@@ -10,6 +10,7 @@ use itertools::Itertools;
 use pile::runs::{Run, runs_of, shared_place};
 use std::alloc::{AllocError, Global};
 use std::fmt::Write;
+use std::mem;
 use volume::Placement;
 
 // The blocks of a room, and the places that they take.
@@ -36,22 +37,20 @@ impl Shown {
         }
     }
 
-    // Of the room itself, so that its words are not copied.
-    fn into_row(self, heap: Global) -> Result<Row, AllocError> {
-        let Shown {
-            entry,
-            taken,
-            image,
-        } = self;
-        let mut cells = vec![in heap; String::from_str(heap, entry.shown_name())?]?;
-        if let Some(Taken { blocks, places }) = &taken {
+    // Takes what is said out of the room, so that it is not copied. Whether all is well with the image stays.
+    fn row(&mut self, heap: Global) -> Result<Row, AllocError> {
+        let mut cells = vec![in heap; String::from_str(heap, self.entry.shown_name())?]?;
+        if let Some(Taken { blocks, places }) = &self.taken {
             cells.push(blocks.to_string(heap)?)?;
             cells.push(runs_words(heap, places.as_slice())?)?;
         }
-        let line = entry.line;
-        let tail = match image {
-            Ok(words) => words,
-            Err(why) => format!(in heap; "line {line}: {why}")?,
+        let line = self.entry.line;
+        let tail = match &mut self.image {
+            Ok(words) => mem::replace(words, String::new(heap)),
+            Err(why) => {
+                let why = mem::replace(why, String::new(heap));
+                format!(in heap; "line {line}: {why}")?
+            }
         };
         Ok(Row { cells, tail })
     }
@@ -173,10 +172,10 @@ fn sharing(heap: Global, rooms: &[Shown], images: &Images) -> Result<String, All
     Ok(out)
 }
 
-fn list(heap: Global, rooms: Vec<Shown>) -> Result<String, AllocError> {
+fn list(heap: Global, rooms: &mut [Shown]) -> Result<String, AllocError> {
     let mut rows = vec![in heap; title(heap, &["room", "blocks", "places"], "image")?]?;
-    for room in rooms {
-        rows.push(room.into_row(heap)?)?;
+    for room in rooms.iter_mut() {
+        rows.push(room.row(heap)?)?;
     }
     laid_out(
         heap,
@@ -199,12 +198,11 @@ pub(crate) fn rooms(rt: &HostRuntime, table: &str) -> Result<(), Stop> {
         let asked = place.and_then(|i| images.get_index(i));
         rooms.push(shown_of(heap, entry, asked.map(|(_, asked)| asked))?)?;
     }
-    let shared = sharing(heap, rooms.as_slice(), &images)?;
+    // The list is printed before the lines on shared images are made, for which memory may lack.
+    rt.print(list(heap, rooms.as_mut_slice())?)?;
+    rt.print(sharing(heap, rooms.as_slice(), &images)?)?;
     let all = rooms.len();
-    let bad = rooms.iter().filter(|room| room.image.is_err()).count();
-    rt.print(list(heap, rooms)?)?;
-    rt.print(shared)?;
-    match bad {
+    match rooms.iter().filter(|room| room.image.is_err()).count() {
         0 => Ok(()),
         bad => Err(Stop::said(format!(in heap; "{table}: faults in {bad} of {all} rooms"))),
     }
