@@ -50,9 +50,10 @@ impl Bank {
         ensures same { meaning_of self.new ≡ meaning_of self.old }
     {
         // Lent, since to take it out would copy it once more.
-        if let Some(held) = &self.held {
-            held.put_into(self.bytes.as_mut_slice());
-        }
+        let Some(held) = &self.held else {
+            return;
+        };
+        held.put_into(self.bytes.as_mut_slice());
         self.held = None;
     }
 
