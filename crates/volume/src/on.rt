@@ -31,11 +31,12 @@ impl<U: Placement, L: Placement> Placement for On<U, L> {
     }
 
     fn block_at(&self, place: u32) -> Option<u32> {
-        let there = self.lower.count();
-        // Asked here too, so that the lower is not searched in vain.
-        if self.upper.total() > there {
+        // Not by `block_on`, whose caller asks the lower before the fit is known, nor with `?`, which is slower over windows.
+        if self.upper.total() > self.lower.count() {
             return None;
         }
-        self.upper.block_on(there, self.lower.block_at(place))
+        self.lower
+            .block_at(place)
+            .and_then(|middle| self.upper.block_at(middle))
     }
 }
